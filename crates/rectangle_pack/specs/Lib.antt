@@ -36,6 +36,7 @@ pub use Rattle.rectangle_pack_packing.specs.Told
 pub use Rattle.rectangle_pack_packing.specs.Results
 pub use Rattle.rectangle_pack_packing.specs.PackingTexts
 pub use Rattle.rectangle_pack_packing.specs.ToldTexts
+pub use Rattle.rectangle_pack_overlaps.specs.Places
 pub use Rattle.rectangle_pack_overlaps.specs.Overlaps
 pub use Rattle.rectangle_pack_judge.specs.Judging
 pub use Rattle.rectangle_pack_covers.specs.Covers

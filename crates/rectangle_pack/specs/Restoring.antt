@@ -1,17 +1,17 @@
 -- Sessions that are made of their parts, and what may be wrong with these.
-use Rattle.std.specs.Prelude.{ℕ, ⊤, Bool, ◌≡◌, ◌<◌, ◌≤◌, not, List, ◌∷◌, ◌++◌, length, All, AllPairs, Any, Some, None, IsSome, Result, Ok, Err}
+use Rattle.std.specs.Prelude.{ℕ, ⊤, Bool, ◌≡◌, ◌<◌, ◌≤◌, not, List, All, AllPairs, Any, Some, None, IsSome, Result, Ok, Err}
 use Rattle.std.specs.declared.cmp.Ordering.{Ordering}
 use Rattle.std.specs.BTreeMap.{is_at}
 use Rattle.std.specs.Map.{lookup}
 use Rattle.rectangle_pack_sections.specs.Bins.{Bin, Held, IsSound, bins_of}
 use Rattle.rectangle_pack_sections.specs.Boxes.{Size, Cuboid}
-use Rattle.rectangle_pack_covers.specs.Covers.{IsBinAnswer, IsSoundAnswer}
+use Rattle.rectangle_pack_overlaps.specs.Places.{At}
+use Rattle.rectangle_pack_covers.specs.Covers.{IsBinAnswer, IsSectionsAnswer}
 use Rattle.rectangle_pack.specs.declared.session.command.Outstanding.{Outstanding}
 use Rattle.rectangle_pack.specs.declared.session.restoring.SessionParts.{SessionParts}
 use Rattle.rectangle_pack.specs.declared.session.restoring.RestoreError.{RestoreError}
 use Rattle.rectangle_pack.specs.declared.session.restoring.RestoreError.TheVariants.{NotRising, NotBelowNext, UnknownBin, WrongBin, OutOfMemory}
-use Rattle.rectangle_pack_covers.specs.declared.covers.SectionsError.{SectionsError}
-use Rattle.rectangle_pack_covers.specs.declared.covers.SectionsError.TheVariants.{Wrong, OutOfMemory as OutOfRoom}
+use Rattle.rectangle_pack_covers.specs.declared.sections.SectionsError.{SectionsError}
 use Rattle.rectangle_pack.specs.Session.{State, IsSession, boxes_of}
 
 module _ {Id B : Type 0} (bin_cmp : B → B → Ordering) where
@@ -21,25 +21,17 @@ module _ {Id B : Type 0} (bin_cmp : B → B → Ordering) where
     pub below : All (λ r. r.number < next) outstanding
     pub known : All (λ r. IsSome (lookup (is_at (bin_cmp r.bin)) bins)) outstanding
 
-  -- the placement at this place; those before it are as a session may have them
-  pub record ComesAfterRecorded (bins : List (B × Bin)) (next : ℕ) (outstanding : List (Outstanding Id B)) (place : ℕ) : Type 0 where
-    pub before : List (Outstanding Id B)
-    pub one : Outstanding Id B
-    pub after : List (Outstanding Id B)
-    pub splits : outstanding ≡ before ++ one ∷ after
-    pub place_is : place ≡ length before
-    pub recorded : AreRecorded bins next before
-
   -- what is wrong with the first placement that a session may not have: its number is not above that of an earlier one; or it is, but
   -- not below the next number; or it is below it, but the bin is not there
   abbrev pub IsRecordFault : List (B × Bin) → ℕ → List (Outstanding Id B) → RestoreError → Type 0
   IsRecordFault bins next outstanding (NotRising place) =
-      (at : ComesAfterRecorded bins next outstanding place) × Any (λ r. at.one.number ≤ r.number) at.before
+      (at : At outstanding place) × AreRecorded bins next at.before × Any (λ r. at.one.number ≤ r.number) at.before
   IsRecordFault bins next outstanding (NotBelowNext place) =
-      (at : ComesAfterRecorded bins next outstanding place) × All (λ r. r.number < at.one.number) at.before × (next ≤ at.one.number)
+      (at : At outstanding place) × AreRecorded bins next at.before × All (λ r. r.number < at.one.number) at.before
+      × (next ≤ at.one.number)
   IsRecordFault bins next outstanding (UnknownBin place) =
-      (at : ComesAfterRecorded bins next outstanding place) × All (λ r. r.number < at.one.number) at.before × (at.one.number < next)
-      × (lookup (is_at (bin_cmp at.one.bin)) bins ≡ None)
+      (at : At outstanding place) × AreRecorded bins next at.before × All (λ r. r.number < at.one.number) at.before
+      × (at.one.number < next) × (lookup (is_at (bin_cmp at.one.bin)) bins ≡ None)
   IsRecordFault bins next outstanding _ = ⊥
 
 module _ {Id B : Type 0} (bin_cmp : B → B → Ordering) (bins : List (B × Bin)) (outstanding : List (Outstanding Id B)) where
@@ -48,20 +40,12 @@ module _ {Id B : Type 0} (bin_cmp : B → B → Ordering) (bins : List (B × Bin
   abbrev pub IsWholeBin : B × Bin → Type 0
   IsWholeBin entry = IsBinAnswer entry.1.size (not entry.1.coalesced) (boxes_of bin_cmp outstanding entry.0 entry.1) None
 
-  -- the bin at this place, in the order of ids, which is found under its id; those before it are whole
-  pub record ComesAfterWhole (place : ℕ) : Type 0 where
-    pub before : List (B × Bin)
-    pub one : B × Bin
-    pub after : List (B × Bin)
-    pub splits : bins ≡ before ++ one ∷ after
-    pub place_is : place ≡ length before
-    pub found : lookup (is_at (bin_cmp one.0)) bins ≡ Some one.1
-    pub whole : All IsWholeBin before
-
-  -- what is wrong with the first bin that is not whole, by the boxes of it: its free sections, and then its placements
+  -- what is wrong with the first bin that is not whole, in the order of ids, by the boxes of it: its free sections, and then its
+  -- placements
   abbrev pub IsBinFault : RestoreError → Type 0
   IsBinFault (WrongBin place fault) =
-      (at : ComesAfterWhole place) × IsBinAnswer at.one.1.size (not at.one.1.coalesced) (boxes_of bin_cmp outstanding at.one.0 at.one.1) (Some fault)
+      (at : At bins place) × All IsWholeBin at.before × (lookup (is_at (bin_cmp at.one.0)) bins ≡ Some at.one.1)
+      × IsBinAnswer at.one.1.size (not at.one.1.coalesced) (boxes_of bin_cmp outstanding at.one.0 at.one.1) (Some fault)
   IsBinFault _ = ⊥
 
 -- the state that parts say
@@ -82,10 +66,8 @@ abbrev pub IsNoSession : {Id B : Type 0} → (B → B → Ordering) → State Id
 IsNoSession bin_cmp state OutOfMemory = ⊤
 IsNoSession bin_cmp state _ = ¬ IsSession bin_cmp state
 
--- what is made of free sections: a bin of this size that has them; or what is wrong with them, as `IsSoundAnswer` says it; or memory
--- was refused
+-- what is made of free sections: a bin of this size that has them; or what is wrong with them, as `IsSectionsAnswer` says it
 abbrev pub IsBinOfSections : Size → List Cuboid → Bool → Result Held SectionsError → Type 0
 IsBinOfSections size sections coalesced (Ok held) =
     IsSound size sections × (held.bin ≡ record { size = size; sections = sections; coalesced = coalesced })
-IsBinOfSections size sections coalesced (Err (Wrong fault)) = IsSoundAnswer size sections (Some fault)
-IsBinOfSections size sections coalesced (Err OutOfRoom) = ⊤
+IsBinOfSections size sections coalesced (Err error) = IsSectionsAnswer size sections (Err error)

@@ -78,7 +78,7 @@ pub mod rect_to_insert {
 
 /// Bins and their free sections.
 pub mod target_bin {
-    pub use rectangle_pack_bins::target_bin::{PushBinSectionError, TargetBin};
+    pub use rectangle_pack_bins::target_bin::{PushBinSectionError, TargetBin, was_coalesced};
     pub use rectangle_pack_lists::laws::{
         joining_has_one_result, joining_keeps_cells, joining_stays_within_the_list,
         step_adds_at_most_two, sweep_leaves_no_face, trial_keeps_cells, trial_tests_are_bounded,
@@ -211,5 +211,6 @@ pub use target_bin::step_adds_at_most_two;
 pub use target_bin::sweep_leaves_no_face;
 pub use target_bin::trial_keeps_cells;
 pub use target_bin::trial_tests_are_bounded;
+pub use target_bin::was_coalesced;
 pub use width_height_depth::WidthHeightDepth;
 pub use width_height_depth::sizes_are_ordered;

@@ -9,8 +9,10 @@ use Rattle.rectangle_pack_c.specs.declared.RpBin.{RpBin}
 use Rattle.rectangle_pack_c.specs.declared.collection.RpExclusion.{RpExclusion}
 use Rattle.rectangle_pack_c.specs.declared.judging.RpEntry.{RpEntry}
 use Rattle.rectangle_pack_c.specs.declared.judging.RpClaim.{RpClaim}
+use Rattle.rectangle_pack_overlaps.proofs.lemmas.Places.{place_within}
 use Rattle.rectangle_pack_c.proofs.CollectedLemmas.{enumerate_last}
-use Rattle.rectangle_pack_c.specs.Judging.{AreShort, IsVerdictOf, claim_of, entries_of, entry_of}
+use Rattle.rectangle_pack_c.specs.Judging.{IsVerdictOf, claim_of, entries_of, entry_of}
+use Rattle.rectangle_pack_c.specs.private.Short.{AreShort}
 
 pub entries_of-more : (entries : List RpEntry) (i : ℕ) (d : RpEntry) → i < length entries
     → entries_of (take (i + 1) entries) ≡ entries_of (take i entries) ++ entry_of i (get_or entries i d) ∷ []
@@ -19,19 +21,16 @@ entries_of-more entries i d within =
     ap entries_of (take_more entries i d within) ∙ ap (map (λ e. entry_of e.0 e.1)) (enumerate_last 0 (take i entries) (get_or entries i d) i long)
     ∙ map_push (λ e. entry_of e.0 e.1) (enumerate_from 0 (take i entries)) (i, get_or entries i d)
 
-place_in : (xs earlier : List Claim) (claim : Claim) (after : List Claim) → xs ≡ earlier ++ claim ∷ after → length earlier < length xs
-place_in xs earlier claim after is = rw is (omega (arith, length-append earlier (claim ∷ after)))
-
 pub AreShort-verdict : (bins : List RpBin) (entries : List RpEntry) (exclusions : List RpExclusion) (claims : List RpClaim) (found : Option Fault)
     → length entries < 2 ^ 32 → length claims < 2 ^ 32 → IsVerdictOf bins entries exclusions claims found → AreShort found
 AreShort-verdict bins entries exclusions claims None few_entries few_claims h = tt
 AreShort-verdict bins entries exclusions claims (Some (Alone claim fault)) few_entries few_claims h =
     let at = h.2.0 in
-    omega (arith, at.place_is, place_in (map claim_of claims) at.earlier at.claim at.after at.splits, length-map claims claim_of)
+    omega (arith, place_within (map claim_of claims) claim at, length-map claims claim_of)
 AreShort-verdict bins entries exclusions claims (Some (Together first second kind)) few_entries few_claims h =
     let at = h.2.0 in
-    let clash = h.2.2 in
-    let last : second < 2 ^ 32 = omega (arith, at.place_is, place_in (map claim_of claims) at.earlier at.claim at.after at.splits, length-map claims claim_of) in
-    (omega (arith, last, at.place_is, clash.first_is, place_in at.earlier clash.before clash.one clash.between clash.splits), last)
+    let clash = h.2.3 in
+    let last : second < 2 ^ 32 = omega (arith, place_within (map claim_of claims) second at, length-map claims claim_of) in
+    (omega (arith, last, at.place_is, place_within at.before first clash.at), last)
 AreShort-verdict bins entries exclusions claims (Some (NotPlaced entry)) few_entries few_claims h =
     omega (arith, h.2.1, ap (λ l. length l) h.1.entries_are, length-map (enumerate_from 0 entries) (λ e. entry_of e.0 e.1), length-enumerate_from 0 entries)

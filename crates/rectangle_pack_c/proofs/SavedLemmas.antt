@@ -11,10 +11,10 @@ use Rattle.std.proofs.lemmas.Map.Keys.{sorted_from_all_adjacent, sorted_tail, be
 use Rattle.std.proofs.lemmas.Map.Views.{All-after_first}
 use Rattle.rectangle_pack_sections.proofs.Std.{All-map, All-push, all_pairs_push, get_or-take}
 use Rattle.rectangle_pack_sections.proofs.lemmas.util.Lists.{All-middle}
-use Rattle.rectangle_pack.specs.declared.BinFault.{BinFault}
-use Rattle.rectangle_pack.specs.declared.BinFault.TheVariants.{Outside, SharesCell, CellInNone, NotFromCuts}
-use Rattle.rectangle_pack.specs.Covers.{IsSoundAnswer, in_one_bin}
-use Rattle.rectangle_pack_covers.proofs.lemmas.Covers.{IsBinAnswer-fault}
+use Rattle.rectangle_pack.specs.declared.SectionsError.{SectionsError}
+use Rattle.rectangle_pack.specs.declared.SectionsError.TheVariants.{Outside as NotInside, SharesCell as Share, OutOfMemory as NoMemory}
+use Rattle.rectangle_pack.specs.Covers.{IsSectionsAnswer, in_one_bin}
+use Rattle.rectangle_pack_covers.proofs.lemmas.Covers.{outside-no_cover, sharing-no_cover}
 use Rattle.rectangle_pack.specs.declared.session.command.Outstanding.{Outstanding}
 use Rattle.rectangle_pack.specs.declared.session.restoring.RestoreError.{RestoreError}
 use Rattle.rectangle_pack.specs.declared.session.restoring.RestoreError.TheVariants.{NotRising, NotBelowNext, UnknownBin, WrongBin, OutOfMemory}
@@ -32,7 +32,7 @@ use Rattle.rectangle_pack_c.specs.declared.restoring.RpWrong.{RpWrong}
 use Rattle.rectangle_pack_c.specs.declared.restoring.SavedError.{SavedError}
 use Rattle.rectangle_pack_c.specs.declared.restoring.SavedError.TheVariants.{Counts, Ids, Sections, Parts}
 use Rattle.rectangle_pack_c.specs.Reading.{section_of, standing_of}
-use Rattle.rectangle_pack_c.specs.Restoring.{IsSavedBin, HasParts, IsSavedSession, AreCounted, IdsRise, IsFirstFallen, HasSound, IsSavedFault, wrong_written}
+use Rattle.rectangle_pack_c.specs.Restoring.{IsSavedBin, HasParts, IsSavedSession, AreCounted, IdsRise, IsFirstFallen, HasSound, IsSavedFault, wrong_in_sections, wrong_written}
 use Rattle.rectangle_pack_c.specs.Upkeep.{box_of}
 use Rattle.rectangle_pack_c.specs.private.Saved.{AreBinsSaved, IsBinPut, IsFaultOfBin, bin_saved, bins_saved, outstanding_of, state_saved}
 use Rattle.rectangle_pack_c.proofs.OrderLemmas.{nat_greater, nat_same, nat_other}
@@ -205,44 +205,47 @@ found_bin (e ∷ before) one after h =
     other a b same less = let equal = nat_same b in let here = rw same at less in absurd (let no = rw here at equal in cc)
 
 -- free sections of a bin that is covered are such
-sound_part : (size : Size) (sections standing : List Cuboid) (fault : BinFault) → IsSoundAnswer size sections (Some fault)
+sound_part : (size : Size) (sections standing : List Cuboid) (error : SectionsError) → error ≢ NoMemory → IsSectionsAnswer size sections (Err error)
     → CoverBin (sections ++ standing) size → ⊥
-sound_part size sections standing (Outside index) h cover =
-    IsBinAnswer-fault size false (sections ++ standing) (Outside index) (record {
-      before = h.before;
-      one = h.one;
-      after = h.after ++ standing;
-      splits = ap (λ l. l ++ standing) h.splits ∙ append_assoc h.before (h.one ∷ h.after) standing;
-      index_is = h.index_is;
-      inside = h.inside;
-      outside = h.outside;
-    }) cover (λ asked. absurd cc)
-sound_part size sections standing (SharesCell first second) h cover =
-    let o = h.1 in
-    IsBinAnswer-fault size false (sections ++ standing) (SharesCell first second) (
+sound_part size sections standing (NotInside index) known (at, before, outside) cover =
+    outside-no_cover size (sections ++ standing) index (
+      record {
+        before = at.before;
+        one = at.one;
+        after = at.after ++ standing;
+        splits = ap (λ l. l ++ standing) at.splits ∙ append_assoc at.before (at.one ∷ at.after) standing;
+        place_is = at.place_is;
+      },
+      before,
+      outside,
+    ) cover
+sound_part size sections standing (Share first second) known (inside, o) cover =
+    let at = o.later in
+    sharing-no_cover size (sections ++ standing) first second (
       cover.inside,
       record {
-        earlier = o.earlier;
-        other = o.other;
-        after = o.after ++ in_one_bin standing;
-        splits = map-append _ sections standing ∙ ap (λ l. l ++ in_one_bin standing) o.splits ∙ append_assoc o.earlier (o.other ∷ o.after) (in_one_bin standing);
-        second = o.second;
+        later = record {
+          before = at.before;
+          one = at.one;
+          after = at.after ++ in_one_bin standing;
+          splits = map-append _ sections standing ∙ ap (λ l. l ++ in_one_bin standing) at.splits ∙ append_assoc at.before (at.one ∷ at.after) (in_one_bin standing);
+          place_is = at.place_is;
+        };
         clear = o.clear;
-        before = o.before;
-        one = o.one;
-        between = o.between;
-        splits_earlier = o.splits_earlier;
-        first = o.first;
+        earlier = o.earlier;
         clash = o.clash;
         none_before = o.none_before;
       },
-    ) cover (λ asked. absurd cc)
-sound_part size sections standing CellInNone h cover = absurd h
-sound_part size sections standing NotFromCuts h cover = absurd h
+    ) cover
+sound_part size sections standing NoMemory known h cover = known refl
 
 -- of a session that has the same parts holds what always holds
 carried : (saved : RpSaved) (other : State ℕ ℕ) → HasParts saved other → (state : State ℕ ℕ) → IsSavedSession saved state → IsSession nat_cmp other
 carried saved other h state s = subst (IsSession nat_cmp) (only_state saved state s.parts ∙ sym (only_state saved other h)) s.always
+
+-- what is written of is no want of memory
+known : (bin : ℕ) (error : SectionsError) (wrong : RpWrong) → wrong_in_sections bin error ≡ Some wrong → error ≢ NoMemory
+known bin error wrong written none = let nothing = rw none at written in absurd cc
 
 -- no session has parts in which something is wrong
 pub no_saved : (saved : RpSaved) (error : SavedError) (wrong : RpWrong) → wrong_written error ≡ Some wrong → IsSavedFault saved error
@@ -252,13 +255,14 @@ no_saved saved (Ids bin) wrong written h state = λ s.
     let at = h.1 in
     let keys = ids_of_parts state.bins saved.bins.now s.parts.bins ∙ ap (map id_of) at.splits ∙ map-append id_of at.before (at.last ∷ at.one ∷ at.after) in
     omega (arith, at.fallen, rises (map id_of at.before) at.last.id at.one.id (map id_of at.after) (subst (IsStrictlySortedBy nat_cmp) keys s.parts.rising))
-no_saved saved (Sections bin fault) wrong written h state = λ s.
+no_saved saved (Sections bin error) wrong written h state = λ s.
     let other = h.0 in
     let at = h.2 in
     let always = carried saved other h.1 state s in
     let found : lookup (is_at (nat_cmp at.one.0)) other.bins ≡ Some at.one.1 =
     rw at.splits (found_bin at.before at.one at.after (rw at.splits at h.1.rising)) in
-    sound_part at.one.1.size at.one.1.sections (outstanding_in nat_cmp other.outstanding at.one.0) fault h.3 (always.covered at.one.0 at.one.1 found)
+    sound_part at.one.1.size at.one.1.sections (outstanding_in nat_cmp other.outstanding at.one.0) error (known bin error wrong written) h.4
+    (always.covered at.one.0 at.one.1 found)
 no_saved saved (Parts (NotRising p)) wrong written h state = λ s. no_session-record nat_cmp h.0 (NotRising p) h.3 (carried saved h.0 h.1 state s)
 no_saved saved (Parts (NotBelowNext p)) wrong written h state = λ s. no_session-record nat_cmp h.0 (NotBelowNext p) h.3 (carried saved h.0 h.1 state s)
 no_saved saved (Parts (UnknownBin p)) wrong written h state = λ s. no_session-record nat_cmp h.0 (UnknownBin p) h.3 (carried saved h.0 h.1 state s)
@@ -334,7 +338,7 @@ module _ (saved : RpSaved) (i : ℕ) (b : RpSavedBin) (within : i < length saved
   pub bin_fault : AreCounted saved → (error : SavedError) → IsFaultOfBin i b (take n rest) error → IsSavedFault saved error
   bin_fault counted Counts f = absurd f
   bin_fault counted (Ids bin) f = absurd f
-  bin_fault counted (Sections bin fault) f = (
+  bin_fault counted (Sections bin error) f = (
     state_saved saved,
     has_parts saved counted rise,
     record {
@@ -350,8 +354,8 @@ module _ (saved : RpSaved) (i : ℕ) (b : RpSavedBin) (within : i < length saved
         length-map (take i bins) id_of,
         length-take-le i bins (omega (arith, within)),
       );
-      sound = h.sound;
     },
+    h.sound,
     f.1,
   )
   bin_fault counted (Parts (NotRising p)) f = absurd f

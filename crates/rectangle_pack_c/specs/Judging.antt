@@ -1,5 +1,5 @@
 -- What a C caller asks the judge, and what is answered.
-use Rattle.std.specs.Prelude.{◌≡◌, ℕ, ⊤, ◌+◌, ◌/◌, ◌%◌, ◌<◌, ◌^◌, ◌==◌, cond, List, map, length, Option, Some, None}
+use Rattle.std.specs.Prelude.{◌≡◌, ℕ, ◌+◌, ◌/◌, ◌%◌, ◌<◌, ◌^◌, ◌==◌, cond, List, map, length, Option, Some, None}
 use Rattle.std.specs.List.{enumerate_from}
 use Rattle.rectangle_pack.specs.declared.Turns.{Turns}
 use Rattle.rectangle_pack.specs.declared.judge.Case.{Case}
@@ -89,10 +89,3 @@ fault_of (Some (NotPlaced entry)) = record { kind = 9; first = entry; second = 0
 -- what is written of claims that were checked: what the judge says of them
 abbrev pub IsChecked : List RpBin → List RpEntry → List RpExclusion → List RpClaim → RpFault → Type 0
 IsChecked bins entries exclusions claims fault = (found : Option Fault) × IsVerdictOf bins entries exclusions claims found × (fault ≡ fault_of found)
-
--- the places that are named are below 2^32
-abbrev pub AreShort : Option Fault → Type 0
-AreShort None = ⊤
-AreShort (Some (Alone claim fault)) = claim < 2 ^ 32
-AreShort (Some (Together first second kind)) = (first < 2 ^ 32) × (second < 2 ^ 32)
-AreShort (Some (NotPlaced entry)) = entry < 2 ^ 32

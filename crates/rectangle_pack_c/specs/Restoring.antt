@@ -6,10 +6,13 @@ use Rattle.std.specs.Map.{keys_of}
 use Rattle.std.specs.Ordering.{nat_cmp}
 use Rattle.rectangle_pack.specs.declared.BinFault.{BinFault}
 use Rattle.rectangle_pack.specs.declared.BinFault.TheVariants.{Outside, SharesCell, CellInNone, NotFromCuts}
-use Rattle.rectangle_pack.specs.declared.SectionsError.TheVariants.{Wrong}
+use Rattle.rectangle_pack.specs.declared.SectionsError.{SectionsError}
+use Rattle.rectangle_pack.specs.declared.SectionsError.TheVariants.{Outside as NotInside, SharesCell as Share, OutOfMemory as NoMemory}
 use Rattle.rectangle_pack.specs.declared.session.restoring.RestoreError.TheVariants.{NotRising, NotBelowNext, UnknownBin, WrongBin, OutOfMemory}
 use Rattle.rectangle_pack.specs.Bins.{Bin, IsSound}
-use Rattle.rectangle_pack.specs.Restoring.{IsBinOfSections, IsRestored}
+use Rattle.rectangle_pack.specs.Covers.{IsSectionsAnswer}
+use Rattle.rectangle_pack.specs.Places.{At}
+use Rattle.rectangle_pack.specs.Restoring.{IsRestored}
 use Rattle.rectangle_pack.specs.Session.{State, IsSession}
 use Rattle.rectangle_pack_c.specs.declared.restoring.RpSaved.{RpSaved}
 use Rattle.rectangle_pack_c.specs.declared.restoring.RpSavedBin.{RpSavedBin}
@@ -68,24 +71,15 @@ pub record IsFirstFallen (bins : List RpSavedBin) (place : ℕ) : Type 0 where
 abbrev pub HasSound : ℕ × Bin → Type 0
 HasSound entry = IsSound entry.1.size entry.1.sections
 
--- the bin at this place; the free sections of those before it are sound
-pub record ComesAfterSound (bins : List (ℕ × Bin)) (place : ℕ) : Type 0 where
-  pub before : List (ℕ × Bin)
-  pub one : ℕ × Bin
-  pub after : List (ℕ × Bin)
-  pub splits : bins ≡ before ++ one ∷ after
-  pub place_is : place ≡ length before
-  pub sound : All HasSound before
-
 -- what is wrong first with saved parts, looked for in this order: the counts of the bins are not those of the free sections; an id
 -- does not rise; the free sections of a bin are wrong, as `bin_of_free_sections` says it of them; or what `Session::restore` says
--- of the state that has these parts. Of want of memory nothing
+-- of the state that has these parts. Of want of memory nothing is said
 abbrev pub IsSavedFault : RpSaved → SavedError → Type 0
 IsSavedFault saved Counts = ¬ AreCounted saved
 IsSavedFault saved (Ids bin) = AreCounted saved × IsFirstFallen saved.bins.now bin
-IsSavedFault saved (Sections bin fault) =
-    (state : State ℕ ℕ) × HasParts saved state × (at : ComesAfterSound state.bins bin)
-    × IsBinOfSections at.one.1.size at.one.1.sections at.one.1.coalesced (Err (Wrong fault))
+IsSavedFault saved (Sections bin error) =
+    (state : State ℕ ℕ) × HasParts saved state × (at : At state.bins bin) × All HasSound at.before
+    × IsSectionsAnswer at.one.1.size at.one.1.sections (Err error)
 IsSavedFault saved (Parts OutOfMemory) = ⊤
 IsSavedFault saved (Parts error) =
     (state : State ℕ ℕ) × HasParts saved state × All HasSound state.bins × IsRestored nat_cmp state (Err error)
@@ -97,11 +91,17 @@ wrong_in_bin bin (SharesCell first second) = record { kind = 7; bin = bin; first
 wrong_in_bin bin CellInNone = record { kind = 8; bin = bin; first = 0; second = 0 }
 wrong_in_bin bin NotFromCuts = record { kind = 9; bin = bin; first = 0; second = 0 }
 
+-- what is written of a fault of free sections, by the place of their bin; of want of memory nothing
+abbrev pub wrong_in_sections : ℕ → SectionsError → Option RpWrong
+wrong_in_sections bin (NotInside index) = Some (wrong_in_bin bin (Outside index))
+wrong_in_sections bin (Share first second) = Some (wrong_in_bin bin (SharesCell first second))
+wrong_in_sections bin NoMemory = None
+
 -- what is written of a fault; of want of memory nothing
 abbrev pub wrong_written : SavedError → Option RpWrong
 wrong_written Counts = Some (record { kind = 1; bin = 0; first = 0; second = 0 })
 wrong_written (Ids bin) = Some (record { kind = 2; bin = bin; first = 0; second = 0 })
-wrong_written (Sections bin fault) = Some (wrong_in_bin bin fault)
+wrong_written (Sections bin error) = wrong_in_sections bin error
 wrong_written (Parts (NotRising placement)) = Some (record { kind = 3; bin = 0; first = placement; second = 0 })
 wrong_written (Parts (NotBelowNext placement)) = Some (record { kind = 4; bin = 0; first = placement; second = 0 })
 wrong_written (Parts (UnknownBin placement)) = Some (record { kind = 5; bin = 0; first = placement; second = 0 })

@@ -1,7 +1,8 @@
 //! The judge for C: what is wrong with a packing that somebody made.
 ghost use Rattle.std.specs.Prelude.{◌≡◌, ◌⊎◌, ◌==◌, ◌+◌, ◌^◌, cond, ◌≢◌, ◌<◌, ◌↔◌, map, length, IfOk};
 ghost use Rattle.rectangle_pack_c.specs.Arguments.{bin_size};
-ghost use Rattle.rectangle_pack_c.specs.Judging.{AreFew, AreShort, IsChecked, IsVerdictOf, alone_number, claim_of, conflict_number, entries_of, fault_of, pair_of, turns_of};
+ghost use Rattle.rectangle_pack_c.specs.Judging.{AreFew, IsChecked, IsVerdictOf, alone_number, claim_of, conflict_number, entries_of, fault_of, pair_of, turns_of};
+ghost use Rattle.rectangle_pack_c.specs.private.Short.{AreShort};
 
 use super::collection::RpExclusion;
 use super::reading::RpSection;

@@ -260,8 +260,8 @@ fn session_of(alloc: Global, bins: &[RpBin]) -> Result<Session<u32, u32>, Sessio
     Ok(session)
 }
 
-// Packs the collection into the session, and writes the placements: the number of the heuristic that
-// was packed with.
+// Packs the collection into the session, and writes the placements: the number of the heuristic
+// that was packed with.
 fn pack_into<T: Written<Outstanding<u32, u32>>>(
     alloc: Global,
     session: &mut Session<u32, u32>,

@@ -105,7 +105,8 @@ fn place_box(
         × (place.new ≡ place.old) }
     // Where the box stands is written. [place_box.number_is_the_next]
     ensures placed { heuristic ≤ RP_SIDE_AREA →
-        ChangesAs (PlacesBox (option_map (λ b. b.now) bin.entry) one_box.now heuristic place.old place.new)
+        ChangesAs
+        (PlacesBox (option_map (λ b. b.now) bin.entry) one_box.now heuristic place.old place.new)
         session.old.state result session.new.state }
 {
     let Some(heuristic) = heuristic_of(heuristic) else {
@@ -149,8 +150,8 @@ fn place_by(
 }
 
 /// Gives placements back by their numbers, all or none: their cells are free again, in the order of
-/// the list. `RP_DONE`, `RP_UNKNOWN_PLACEMENT` where for some number no placement is outstanding, or
-/// one stands twice, or `RP_OUT_OF_MEMORY`. What is not done leaves the session as it was.
+/// the list. `RP_DONE`, `RP_UNKNOWN_PLACEMENT` where for some number no placement is outstanding,
+/// or one stands twice, or `RP_OUT_OF_MEMORY`. What is not done leaves the session as it was.
 #[unsafe(no_mangle)]
 pub extern "C" fn rectangle_pack_session_release_all(
     alloc: Global,

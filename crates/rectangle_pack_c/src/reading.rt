@@ -38,8 +38,8 @@ pub struct RpSection {
 pub struct RpStanding {
     /// Its number, by which it is released.
     pub number: u64,
-    /// The index of its box among those of the call that packed it; of a member, the number of boxes
-    /// and its own index; of a box that was placed at a location, 0.
+    /// The index of its box among those of the call that packed it; of a member, the number of
+    /// boxes and its own index; of a box that was placed at a location, 0.
     pub index: u32,
     /// The id of its bin.
     pub bin: u32,
@@ -147,10 +147,10 @@ fn tell<S, T: Written<S>>(there: &[S], array: &mut [T], count: &mut usize) -> u3
     RP_DONE
 }
 
-/// Writes the free sections of a bin to an array, the newest last, and how many they are. `RP_DONE`,
-/// `RP_SHORT_ARRAY` where there are more than the array holds, and then only their number is
-/// written, or `RP_UNKNOWN_BIN`, and then nothing is written. Takes no memory, and leaves the
-/// session as it was.
+/// Writes the free sections of a bin to an array, the newest last, and how many they are.
+/// `RP_DONE`, `RP_SHORT_ARRAY` where there are more than the array holds, and then only their
+/// number is written, or `RP_UNKNOWN_BIN`, and then nothing is written. Takes no memory, and leaves
+/// the session as it was.
 #[unsafe(no_mangle)]
 pub extern "C" fn rectangle_pack_session_free_sections(
     alloc: Global,

@@ -5,7 +5,7 @@ ghost use Rattle.std.specs.List.{sum_by};
 ghost use Rattle.std.specs.Ordering.{nat_cmp};
 ghost use Rattle.rectangle_pack.specs.Session.{State};
 ghost use Rattle.rectangle_pack.specs.Bins.{bins_of};
-ghost use Rattle.rectangle_pack_c.specs.Restoring.{AreCounted, IdsRise, IsFirstFallen, IsSavedFault, IsSavedSession, IsWrong, wrong_in_bin, wrong_written};
+ghost use Rattle.rectangle_pack_c.specs.Restoring.{AreCounted, IdsRise, IsFirstFallen, IsSavedFault, IsSavedSession, IsWrong, wrong_in_bin, wrong_in_sections, wrong_written};
 ghost use Rattle.rectangle_pack_c.specs.Upkeep.{box_of};
 ghost use Rattle.rectangle_pack_c.specs.private.Saved.{AreBinsSaved, IsBinPut, IsFaultOfBin, outstanding_of};
 
@@ -56,7 +56,8 @@ pub struct RpWrong {
     pub kind: u32,
     /// The index of the bin in the list of bins, or 0.
     pub bin: usize,
-    /// The index of a placement in the list of placements, or of a box among those of the bin, or 0.
+    /// The index of a placement in the list of placements, or of a box among those of the bin, or
+    /// 0.
     pub first: usize,
     /// The index of another box of the bin, or 0.
     pub second: usize,
@@ -88,8 +89,8 @@ pub(crate) enum SavedError {
     Counts,
     // The id of a bin is not above that of the bin before it.
     Ids { bin: usize },
-    // The free sections of a bin are not such.
-    Sections { bin: usize, fault: BinFault },
+    // The free sections of a bin are not such, or memory was refused for them.
+    Sections { bin: usize, error: SectionsError },
     // What the library says of the parts, or that memory was refused.
     Parts { error: RestoreError },
 }
@@ -109,15 +110,16 @@ impl From<AllocError> for SavedError {
     }
 }
 
-/// Makes a session of saved parts. `RP_DONE`; `RP_WRONG_PARTS` where no session has these parts, and
-/// what is wrong is written to `wrong`; or `RP_OUT_OF_MEMORY`. What is not done leaves the handle as
-/// it was.
+/// Makes a session of saved parts. `RP_DONE`; `RP_WRONG_PARTS` where no session has these parts,
+/// and what is wrong is written to `wrong`; or `RP_OUT_OF_MEMORY`. What is not done leaves the
+/// handle as it was.
 ///
 /// What is wrong is looked for in this order: the counts of the bins; their ids; bin by bin, the
-/// free sections, whether each is inside, and then whether two share a cell; placement by placement,
-/// the number and the bin; and bin by bin, its free sections and placements.
+/// free sections, whether each is inside, and then whether two share a cell; placement by
+/// placement, the number and the bin; and bin by bin, its free sections and placements.
 ///
-/// The time is about that of a sort of all placements and free sections.
+/// The time is about that of a sort of all placements and free sections, but for boxes that were
+/// laid to defy it, which may take the square.
 #[unsafe(no_mangle)]
 pub extern "C" fn rectangle_pack_session_restore(
     alloc: Global,
@@ -262,10 +264,7 @@ fn put_bin(
     let sections = sections_of(alloc, own)?;
     match bin_of_free_sections(alloc, size.into(), sections, bin.coalesced != 0) {
         Ok(made) => Ok(insert(bins, bin.id, made)?),
-        Err(SectionsError::Wrong(fault)) => Err(SavedError::Sections { bin: index, fault }),
-        Err(SectionsError::OutOfMemory) => Err(SavedError::Parts {
-            error: RestoreError::OutOfMemory,
-        }),
+        Err(error) => Err(SavedError::Sections { bin: index, error }),
     }
 }
 
@@ -323,7 +322,7 @@ fn wrong_of(error: SavedError) -> Option<RpWrong>
             bin,
             ..wrong_at(RP_WRONG_IDS, 0)
         }),
-        SavedError::Sections { bin, fault } => Some(wrong_in(bin, fault)),
+        SavedError::Sections { bin, error } => wrong_in_sections(bin, error),
         SavedError::Parts { error } => match error {
             RestoreError::NotRising { placement } => Some(wrong_at(RP_WRONG_NUMBER, placement)),
             RestoreError::NotBelowNext { placement } => Some(wrong_at(RP_WRONG_NEXT, placement)),
@@ -346,6 +345,18 @@ fn wrong_at(kind: u32, first: usize) -> RpWrong
         first,
         second: 0,
     }
+}
+
+// What is written of a fault of a bin's free sections; nothing of want of memory.
+fn wrong_in_sections(bin: usize, error: SectionsError) -> Option<RpWrong>
+    ensures { result ≡ wrong_in_sections bin error }
+{
+    let fault = match error {
+        SectionsError::Outside { index } => BinFault::Outside { index },
+        SectionsError::SharesCell { first, second } => BinFault::SharesCell { first, second },
+        SectionsError::OutOfMemory => return None,
+    };
+    Some(wrong_in(bin, fault))
 }
 
 // What is written of a fault of a bin's boxes.

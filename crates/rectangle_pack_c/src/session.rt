@@ -165,8 +165,8 @@ pub extern "C" fn rectangle_pack_session_coalesce_all(
 }
 
 /// Joins the free section of a bin that has this index in the bin's list with those of the range
-/// from `start` to below `end` that share a whole face with it, as `Session::coalesce` does. `RP_DONE`,
-/// or `RP_UNKNOWN_BIN` where there is no such bin. Takes no memory.
+/// from `start` to below `end` that share a whole face with it, as `Session::coalesce` does.
+/// `RP_DONE`, or `RP_UNKNOWN_BIN` where there is no such bin. Takes no memory.
 #[unsafe(no_mangle)]
 pub extern "C" fn rectangle_pack_session_coalesce(
     alloc: Global,

@@ -3,6 +3,8 @@
 #![tactic(auto)]
 
 pub mod covers;
+pub mod parts;
+pub mod sections;
 pub mod straight_cuts;
 #[cfg(test)]
 mod tests;

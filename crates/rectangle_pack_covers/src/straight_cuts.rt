@@ -6,7 +6,8 @@ ghost use Rattle.rectangle_pack_sections.specs.CutTrees.{IsFromCuts};
 ghost use Rattle.rectangle_pack_plans.specs.CutPlans.{IsCutPlan};
 ghost use Rattle.rectangle_pack_covers.specs.StraightCuts.{IsCutsAnswer};
 
-use crate::covers::{SectionsError, add_with_cells, all_of, first_unsound, with_cells};
+use crate::parts::{add_with_cells, all_of, with_cells};
+use crate::sections::{SectionsError, check_sections};
 use rectangle_pack_plans::cut_anew::cut_anew;
 use rectangle_pack_plans::cut_plan::{CutStep, plan_of};
 use rectangle_pack_sections::bin_section::BinSection;
@@ -26,25 +27,42 @@ pub struct StraightCuts<A: Allocator + Copy = Global> {
 /// which stand in it, and what is free beside them; `None` where none do, whatever is left over.
 /// Boxes without cells do not count.
 ///
-/// `Wrong` names the first box that is outside the bin, or, where none is, the first that shares a
-/// cell with an earlier one, by their places in the list. Fails with `OutOfMemory` when memory is
-/// refused.
+/// The error names the first box that is outside the bin; or, where none is, the first that shares
+/// a cell with an earlier one. Fails with `OutOfMemory` when memory is refused.
+///
+/// The time is about that of a sort of the boxes, but for boxes that were laid to defy it, which
+/// may take the square.
+///
+/// ```
+/// let size = WidthHeightDepth::new(10, 10, 1);
+/// let left = BinSection::new(0, 0, 0, WidthHeightDepth::new(4, 10, 1));
+/// let cuts = straight_cuts(alloc, size, &[left])?.ok_or("no such cuts")?;
+/// let right = BinSection::new(4, 0, 0, WidthHeightDepth::new(6, 10, 1));
+/// assert_eq!(rt; cuts.free.as_slice(), [right].as_slice());
+/// let cut = CutStep::Cut {
+///     axis: Axis::X,
+///     place: 4,
+/// };
+/// assert_eq!(rt;
+///     cuts.steps.as_slice(),
+///     [cut, CutStep::Leaf, CutStep::Leaf].as_slice()
+/// );
+/// ```
 pub fn straight_cuts<A: Allocator + Copy>(
     alloc: A,
     size: WidthHeightDepth,
     boxes: &[BinSection],
 ) -> Result<Option<StraightCuts<A>>, SectionsError>
     // Cuts: the boxes are inside the bin and share no cell. The free sections are those to which
-    //   `Session::recut` parts what is free round them, and the plan is that of `Session::cut_plan`.
-    //   [all_parts.free_sections_are_left_out]
+    //   `Session::recut` parts what is free round them, and the plan is that of
+    //   `Session::cut_plan`. [all_parts.free_sections_are_left_out]
     // `None`: the boxes are inside the bin and share no cell, and there are no free sections with
     //   which they are from straight cuts of it.
-    // `Wrong`: the first box that is outside, or, where none is, the first two that share a cell.
+    // `Outside`, `SharesCell`: the first box that is outside, or, where none is, the first two that
+    //   share a cell.
     ensures { IsCutsAnswer size boxes.now result }
 {
-    if let Some(fault) = first_unsound(alloc, size, boxes)? {
-        return Err(SectionsError::Wrong(fault));
-    }
+    check_sections(alloc, size, boxes)?;
     let mut standing = with_cells(alloc, boxes)?;
     let Some(free) = cut_anew(alloc, all_of(size), standing.as_mut_slice())? else {
         return Ok(None);

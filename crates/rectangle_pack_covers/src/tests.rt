@@ -1,6 +1,7 @@
 //! Faults that are known by hand.
 
-use crate::covers::{BinFault, SectionsError, first_fault_in_bin, first_uncovered, first_unsound};
+use crate::covers::{BinFault, first_fault_in_bin};
+use crate::sections::{SectionsError, check_sections};
 use crate::straight_cuts::straight_cuts;
 use rectangle_pack_plans::cut_plan::CutStep;
 use rectangle_pack_sections::axis::Axis;
@@ -20,7 +21,7 @@ fn board() -> WidthHeightDepth {
 fn boxes_that_cover(rt: HostRuntime) {
     let alloc = rt.alloc();
     let halves = [flat(0, 0, 4, 10), flat(4, 0, 6, 10)];
-    assert!(rt; first_uncovered(alloc, board(), &halves) == Ok(None));
+    assert!(rt; check_sections(alloc, board(), &halves) == Ok(()));
     assert!(rt; first_fault_in_bin(alloc, board(), &halves, true) == Ok(None));
     let with_empty = [flat(4, 0, 6, 10), flat(10, 3, 0, 2), flat(0, 0, 4, 10)];
     assert!(rt; first_fault_in_bin(alloc, board(), &with_empty, true) == Ok(None));
@@ -36,10 +37,10 @@ fn boxes_that_are_outside(rt: HostRuntime) {
     let alloc = rt.alloc();
     let wide = [flat(0, 0, 4, 10), flat(4, 0, 7, 10), flat(0, 1, 4, 10)];
     let outside = Ok(Some(BinFault::Outside { index: 1 }));
-    assert!(rt; first_unsound(alloc, board(), &wide) == outside);
-    assert!(rt; first_uncovered(alloc, board(), &wide) == outside);
+    assert!(rt; check_sections(alloc, board(), &wide) == Err(SectionsError::Outside { index: 1 }));
+    assert!(rt; first_fault_in_bin(alloc, board(), &wide, false) == outside);
     let far = [flat(0, 0, 4, 10), flat(u32::MAX, 0, 6, 10)];
-    assert!(rt; first_uncovered(alloc, board(), &far) == outside);
+    assert!(rt; first_fault_in_bin(alloc, board(), &far, true) == outside);
 }
 
 #[test]
@@ -50,11 +51,15 @@ fn boxes_that_share_a_cell(rt: HostRuntime) {
         first: 1,
         second: 2,
     }));
-    assert!(rt; first_unsound(alloc, board(), &three) == shares);
+    let unsound = Err(SectionsError::SharesCell {
+        first: 1,
+        second: 2,
+    });
+    assert!(rt; check_sections(alloc, board(), &three) == unsound);
     assert!(rt; first_fault_in_bin(alloc, board(), &three, false) == shares);
     // As many cells as the bin has.
     let twice = [flat(0, 0, 5, 5), flat(5, 0, 5, 10), flat(5, 0, 5, 5)];
-    assert!(rt; first_uncovered(alloc, board(), &twice) == shares);
+    assert!(rt; first_fault_in_bin(alloc, board(), &twice, false) == shares);
 }
 
 #[test]
@@ -62,8 +67,8 @@ fn cell_in_none(rt: HostRuntime) {
     let alloc = rt.alloc();
     let none = Ok(Some(BinFault::CellInNone));
     let two = [flat(0, 0, 4, 10), flat(4, 0, 6, 9)];
-    assert!(rt; first_unsound(alloc, board(), &two) == Ok(None));
-    assert!(rt; first_uncovered(alloc, board(), &two) == none);
+    assert!(rt; check_sections(alloc, board(), &two) == Ok(()));
+    assert!(rt; first_fault_in_bin(alloc, board(), &two, false) == none);
     assert!(rt; first_fault_in_bin(alloc, board(), &[], true) == none);
 }
 
@@ -127,6 +132,6 @@ fn no_cuts_round_boxes(rt: HostRuntime) -> Result<(), Fail> {
     ];
     assert!(rt; straight_cuts(alloc, board(), &round)?.is_none());
     let outside = straight_cuts(alloc, board(), &[flat(0, 0, 4, 4), flat(9, 0, 2, 2)]).err();
-    assert!(rt; outside == Some(SectionsError::Wrong(BinFault::Outside { index: 1 })));
+    assert!(rt; outside == Some(SectionsError::Outside { index: 1 }));
     Ok(())
 }

@@ -1,4 +1,5 @@
 -- Lemmas of the judge.
+pub mod Excluded
 pub mod Firsts
 pub mod Apart
 pub mod Verdicts

@@ -1,8 +1,9 @@
 -- Packings of whoever made them: which boxes stand where, and what may be wrong with that.
-use Rattle.std.specs.Prelude.{◌≡◌, ◌≢◌, ℕ, ◌<◌, ◌≤◌, ◌==◌, ◌&&◌, ◌||◌, Bool, true, false, not, List, ◌∷◌, ◌++◌, length, All, AllPairs, Any, Contains, HoldsAt, Option, Some, None, slice_index_or}
+use Rattle.std.specs.Prelude.{◌≡◌, ◌≢◌, ℕ, ◌<◌, ◌≤◌, ◌==◌, ◌&&◌, ◌||◌, Bool, true, false, not, List, length, All, AllPairs, Any, Contains, HoldsAt, Option, Some, None, slice_index_or}
 use Rattle.std.specs.List.{list_any}
 use Rattle.rectangle_pack_sections.specs.Boxes.{IsInside, AreApart, SharesCell as ShareCell}
 use Rattle.rectangle_pack_bounds.specs.Turning.{ways}
+use Rattle.rectangle_pack_overlaps.specs.Places.{At}
 use Rattle.rectangle_pack_judge.specs.declared.case.Case.{Case}
 use Rattle.rectangle_pack_judge.specs.declared.case.Claim.{Claim}
 use Rattle.rectangle_pack_judge.specs.declared.case.Entry.{Entry}
@@ -16,10 +17,6 @@ use Rattle.rectangle_pack_judge.specs.declared.judging.Fault.TheVariants.{Alone,
 -- whether a pair is of these two numbers, in either order
 abbrev pub are_these : ℕ × ℕ → ℕ → ℕ → Bool
 are_these pair a b = (pair.0 == a && pair.1 == b) || (pair.0 == b && pair.1 == a)
-
--- the number of each group is below `groups`
-abbrev pub HaveGroups : Case → ℕ → Type 0
-HaveGroups case groups = All (λ e. e.group < groups) case.entries.now
 
 -- what stands for an entry that is not there
 abbrev pub no_entry : Entry
@@ -105,32 +102,20 @@ module _ (case : Case) where
   -- what is wrong with a claim beside the earlier ones: a conflict with one of them, and with none before that one; and there is
   -- no conflict of a kind that comes before this one
   pub record IsTogetherFault (earlier : List Claim) (c : Claim) (first : ℕ) (kind : Conflict) : Type 0 where
-    pub before : List Claim
-    pub one : Claim
-    pub between : List Claim
-    pub splits : earlier ≡ before ++ one ∷ between
-    pub first_is : first ≡ length before
-    pub is : IsConflict kind one c
-    pub none_before : All (λ a. IsFree kind a c) before
+    pub at : At earlier first
+    pub is : IsConflict kind at.one c
+    pub none_before : All (λ a. IsFree kind a c) at.before
     pub no_other : (other : Conflict) → rank other < rank kind → All (λ a. IsFree other a c) earlier
-
-  -- the claim at this place; those before it are a part of a packing
-  pub record ComesAfterPart (claims : List Claim) (place : ℕ) : Type 0 where
-    pub earlier : List Claim
-    pub claim : Claim
-    pub after : List Claim
-    pub splits : claims ≡ earlier ++ claim ∷ after
-    pub place_is : place ≡ length earlier
-    pub part : IsPartOfPacking earlier
 
   -- what a judge answers: that the claims are a packing; or the first fault. It is that of the first claim that may not stand with
   -- those before it: what is wrong with it alone, or else with earlier ones. Where all may stand it is the first entry that is
   -- not placed
   abbrev pub IsVerdict : List Claim → Option Fault → Type 0
   IsVerdict claims None = IsPacking claims
-  IsVerdict claims (Some (Alone place fault)) = (at : ComesAfterPart claims place) × IsAloneAnswer at.claim (Some fault)
+  IsVerdict claims (Some (Alone place fault)) =
+      (at : At claims place) × IsPartOfPacking at.before × IsAloneAnswer at.one (Some fault)
   IsVerdict claims (Some (Together first second kind)) =
-      (at : ComesAfterPart claims second) × StandsAlone at.claim × IsTogetherFault at.earlier at.claim first kind
+      (at : At claims second) × IsPartOfPacking at.before × StandsAlone at.one × IsTogetherFault at.before at.one first kind
   IsVerdict claims (Some (NotPlaced entry)) =
       IsPartOfPacking claims × (entry < length case.entries.now) × All (λ c. c.entry ≢ entry) claims
       × ((e : ℕ) → e < entry → IsPlaced claims e)

@@ -1,11 +1,13 @@
 //! What is to be packed, and where somebody put it.
 ghost use Rattle.std.specs.Prelude.{◌≡◌, MatchBool};
-ghost use Rattle.std.specs.List.{list_any};
-ghost use Rattle.rectangle_pack_judge.specs.Judging.{IsAloneAnswer, IsConflict, IsFree, are_apart, are_these, group_of};
+ghost use Rattle.rectangle_pack_judge.specs.Judging.{IsAloneAnswer, IsConflict, IsFree, group_of};
+ghost use Rattle.rectangle_pack_judge.specs.private.Apart.{AreExcludedWith};
 
 use rectangle_pack_bounds::turning::TurningBox;
 use rectangle_pack_sections::bin_section::{BinSection, is_inside};
 use rectangle_pack_sections::width_height_depth::WidthHeightDepth;
+use std::alloc::Allocator;
+use std::collections::BTreeSet;
 
 /// A box that is to stand in a bin, once.
 #[derive(Debug, Clone, Copy, PartialEq)]
@@ -84,27 +86,6 @@ pub(crate) fn group_of(case: &Case<'_>, claim: &Claim) -> usize
     }
 }
 
-// Whether a pair is of these two groups, in either order.
-fn are_these(pair: &(usize, usize), one: usize, other: usize) -> bool
-    ensures { result ≡ are_these pair.now one other }
-{
-    (pair.0 == one && pair.1 == other) || (pair.0 == other && pair.1 == one)
-}
-
-// Whether two groups are a pair.
-fn is_paired(excluded: &[(usize, usize)], one: usize, other: usize) -> bool
-    ensures { result ≡ list_any (λ pair. are_these pair one other) excluded.now }
-{
-    excluded.iter().any(|pair| are_these(pair, one, other))
-}
-
-// Whether these are two groups that are excluded.
-fn are_apart(case: &Case<'_>, one: usize, other: usize) -> bool
-    ensures { result ≡ are_apart case.now one other }
-{
-    one != other && is_paired(case.excluded, one, other)
-}
-
 /// The first fault that a claim has alone.
 pub(crate) fn alone_fault(case: &Case<'_>, claim: &Claim) -> Option<AloneFault>
     ensures { IsAloneAnswer case.now claim.now result }
@@ -124,8 +105,15 @@ pub(crate) fn alone_fault(case: &Case<'_>, claim: &Claim) -> Option<AloneFault>
     None
 }
 
-/// Whether this is wrong with two claims.
-pub(crate) fn are_in_conflict(case: &Case<'_>, kind: Conflict, one: &Claim, other: &Claim) -> bool
+/// Whether this is wrong with two claims, where these groups are excluded with that of the second.
+pub(crate) fn are_in_conflict<A: Allocator>(
+    case: &Case<'_>,
+    apart: &BTreeSet<usize, A>,
+    kind: Conflict,
+    one: &Claim,
+    other: &Claim,
+) -> bool
+    requires { AreExcludedWith case.now (group_of case.now other.now) apart.now }
     ensures { MatchBool result (IsConflict case.now kind one.now other.now)
         (IsFree case.now kind one.now other.now) }
 {
@@ -136,7 +124,7 @@ pub(crate) fn are_in_conflict(case: &Case<'_>, kind: Conflict, one: &Claim, othe
             group_of(case, one) == group_of(case, other) && one.bin != other.bin
         }
         Conflict::ExcludedTogether => {
-            one.bin == other.bin && are_apart(case, group_of(case, one), group_of(case, other))
+            one.bin == other.bin && apart.contains(&group_of(case, one))
         }
     }
 }

@@ -1,7 +1,8 @@
 //! The first claim that is in conflict with an earlier one, by each kind of conflict.
 ghost use Rattle.std.specs.Prelude.{◌≡◌, length, All, AllPairs, IfOk, None, map, slice_index_or};
 ghost use Rattle.rectangle_pack_judge.specs.declared.case.Conflict.TheVariants.{PlacedTwice, SharesCell, GroupInTwoBins, ExcludedTogether};
-ghost use Rattle.rectangle_pack_judge.specs.Judging.{IsFree, StandsAlone, HaveGroups, GoTogether};
+ghost use Rattle.rectangle_pack_judge.specs.Judging.{IsFree, StandsAlone, GoTogether};
+ghost use Rattle.rectangle_pack_judge.specs.private.Numbers.{HaveGroups};
 ghost use Rattle.rectangle_pack_judge.specs.private.Firsts.{IsFirst, AreFirsts, IsLater};
 
 use crate::case::{Case, Claim, group_of};

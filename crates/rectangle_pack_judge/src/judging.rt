@@ -3,14 +3,18 @@ ghost use Rattle.std.specs.Prelude.{◌≡◌, ◌≢◌, ◌<◌, ℕ, Option, 
 ghost use Rattle.std.specs.Option.{option_map};
 ghost use Rattle.rectangle_pack_judge.specs.declared.case.AloneFault.{AloneFault};
 ghost use Rattle.rectangle_pack_judge.specs.declared.judging.Fault.TheVariants.{Alone};
-ghost use Rattle.rectangle_pack_judge.specs.Judging.{IsAloneAnswer, StandsAlone, HaveGroups, IsConflict, IsFree, IsVerdict, IsPlaced};
+ghost use Rattle.rectangle_pack_judge.specs.Judging.{IsAloneAnswer, StandsAlone, IsConflict, IsFree, IsVerdict, IsPlaced, group_of};
+ghost use Rattle.rectangle_pack_judge.specs.private.Apart.{AreExcludedWith};
+ghost use Rattle.rectangle_pack_judge.specs.private.Numbers.{HaveGroups};
 ghost use Rattle.rectangle_pack_judge.specs.private.Firsts.{IsFirstAlone, IsTogetherAnswer};
 
-use crate::case::{AloneFault, Case, Claim, Conflict, alone_fault, are_in_conflict};
+use crate::apart::excluded_with;
+use crate::case::{AloneFault, Case, Claim, Conflict, alone_fault, are_in_conflict, group_of};
 use crate::conflicts::first_conflict;
 use crate::marks::marks;
 use crate::numbers::{numbers_of, renumbered, renumbered_pairs};
 use std::alloc::{AllocError, Allocator};
+use std::collections::BTreeSet;
 
 /// What is wrong with a packing. Claims are named by their places in the list.
 #[derive(Debug, Clone, Copy, PartialEq, Eq)]
@@ -47,7 +51,7 @@ pub enum Fault {
 /// entry that is not placed. Fails only when memory is refused.
 ///
 /// The time is about that of a sort of the claims and the entries, but for boxes that were laid to
-/// defy it.
+/// defy it, which may take the square.
 ///
 /// ```
 /// fn entry(group: usize) -> Entry {
@@ -124,7 +128,7 @@ fn first_fault_among<A: Allocator + Copy>(
     let alone = first_alone(case, claims);
     let found = first_conflict(alloc, case, groups, &claims[..alone])?;
     if found < alone {
-        return Ok(together_fault(case, &claims[..found], &claims[found]));
+        return together_fault(alloc, case, &claims[..found], &claims[found]);
     }
     if let Some(claim) = claims.get(alone) {
         return Ok(fault_alone(case, alone, claim));
@@ -157,28 +161,37 @@ fn first_alone(case: &Case<'_>, claims: &[Claim]) -> usize
 }
 
 // What is wrong with a claim beside the earlier ones.
-fn together_fault(case: &Case<'_>, earlier: &[Claim], claim: &Claim) -> Option<Fault>
-    ensures { IsTogetherAnswer case.now earlier.now claim.now result }
+fn together_fault<A: Allocator + Copy>(
+    alloc: A,
+    case: &Case<'_>,
+    earlier: &[Claim],
+    claim: &Claim,
+) -> Result<Option<Fault>, AllocError>
+    ensures { IfOk result (IsTogetherAnswer case.now earlier.now claim.now) }
 {
+    let apart = excluded_with(alloc, case, group_of(case, claim))?;
     for conflict in Conflict::ALL {
-        if let Some(first) = first_in_conflict(case, conflict, earlier, claim) {
-            return Some(Fault::Together {
+        if let Some(first) = first_in_conflict(case, &apart, conflict, earlier, claim) {
+            return Ok(Some(Fault::Together {
                 first,
                 second: earlier.len(),
                 conflict,
-            });
+            }));
         }
     }
-    None
+    Ok(None)
 }
 
-// The place of the first of these claims that is in this conflict with another one.
-fn first_in_conflict(
+// The place of the first of these claims that is in this conflict with another one, where these
+// groups are excluded with that of the other one.
+fn first_in_conflict<A: Allocator>(
     case: &Case<'_>,
+    apart: &BTreeSet<usize, A>,
     conflict: Conflict,
     earlier: &[Claim],
     claim: &Claim,
 ) -> Option<usize>
+    requires { AreExcludedWith case.now (group_of case.now claim.now) apart.now }
     ensures { MatchOption result (All (λ a. IsFree case.now conflict a claim.now) earlier.now)
         (λ i. (i < length earlier.now)
         × HoldsAt (λ a. IsConflict case.now conflict a claim.now) earlier.now i
@@ -186,7 +199,7 @@ fn first_in_conflict(
 {
     earlier
         .iter()
-        .position(|one| are_in_conflict(case, conflict, one, claim))
+        .position(|one| are_in_conflict(case, apart, conflict, one, claim))
 }
 
 // The first entry that no claim places.

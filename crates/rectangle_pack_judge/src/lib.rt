@@ -2,6 +2,7 @@
 //! layer of `rectangle_pack`, which passes on what is for its users.
 #![tactic(auto)]
 
+mod apart;
 pub mod case;
 mod conflicts;
 pub mod judging;

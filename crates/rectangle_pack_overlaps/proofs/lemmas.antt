@@ -1,3 +1,4 @@
 -- Lemmas of overlaps.
 pub mod Parting
 pub mod Piles
+pub mod Places

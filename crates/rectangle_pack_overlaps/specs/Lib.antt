@@ -1,2 +1,3 @@
 pub mod Overlaps
+pub mod Places
 pub mod private

@@ -1,8 +1,9 @@
 -- Which boxes of a list share a cell in one bin.
-use Rattle.std.specs.Prelude.{◌≡◌, List, ◌∷◌, ◌++◌, length, All, AllPairs, Option, Some, None}
+use Rattle.std.specs.Prelude.{◌≡◌, List, All, AllPairs, Option, Some, None}
 use Rattle.rectangle_pack_sections.specs.Boxes.{SharesCell, AreApart}
 use Rattle.rectangle_pack_overlaps.specs.declared.overlaps.Standing.{Standing}
 use Rattle.rectangle_pack_overlaps.specs.declared.overlaps.Overlap.{Overlap}
+use Rattle.rectangle_pack_overlaps.specs.Places.{At}
 
 -- two boxes are in one bin and share a cell
 -- Example: (0,0,0) 2x1x1 and (1,0,0) 1x1x1, both in bin 4
@@ -19,19 +20,11 @@ AreClear a b = a.bin ≡ b.bin → AreApart a.section b.section
 -- before that one clashes with it
 -- Example: of (0,0,0) 1x1x1, (0,0,0) 2x1x1 and (1,0,0) 1x1x1, all in one bin: the boxes 0 and 1
 pub record IsFirstOverlap (boxes : List Standing) (o : Overlap) : Type 0 where
-  pub earlier : List Standing
-  pub other : Standing
-  pub after : List Standing
-  pub splits : boxes ≡ earlier ++ other ∷ after
-  pub second : o.second ≡ length earlier
-  pub clear : AllPairs AreClear earlier
-  pub before : List Standing
-  pub one : Standing
-  pub between : List Standing
-  pub splits_earlier : earlier ≡ before ++ one ∷ between
-  pub first : o.first ≡ length before
-  pub clash : Clash one other
-  pub none_before : All (λ b. AreClear b other) before
+  pub later : At boxes o.second
+  pub clear : AllPairs AreClear later.before
+  pub earlier : At later.before o.first
+  pub clash : Clash earlier.one later.one
+  pub none_before : All (λ b. AreClear b later.one) earlier.before
 
 -- what is answered where boxes are asked which two of them clash: the first overlap, or that there is none
 abbrev pub IsOverlapAnswer : List Standing → Option Overlap → Type 0

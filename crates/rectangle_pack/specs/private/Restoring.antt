@@ -28,6 +28,6 @@ abbrev pub boxes_at : {B A : Type 0} → (B → B → Ordering) → List (Bor B 
 boxes_at bin_cmp piles id = unwrap_or (option_map (λ v. v.items) (lookup (λ key. is_at (bin_cmp id) key.now) piles)) []
 
 -- the greatest number of these placements; there is none where there are no placements
-abbrev pub IsLast : {Id B : Type 0} → Option ℕ → List (Outstanding Id B) → Type 0
-IsLast None outstanding = outstanding ≡ []
-IsLast (Some n) outstanding = All (λ r. r.number ≤ n) outstanding × Any (λ r. n ≤ r.number) outstanding
+abbrev pub IsGreatest : {Id B : Type 0} → Option ℕ → List (Outstanding Id B) → Type 0
+IsGreatest None outstanding = outstanding ≡ []
+IsGreatest (Some n) outstanding = All (λ r. r.number ≤ n) outstanding × Any (λ r. n ≤ r.number) outstanding

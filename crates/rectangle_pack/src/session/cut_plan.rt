@@ -8,6 +8,7 @@ ghost use Rattle.rectangle_pack.specs.PlanAnswers.{IsPlanAnswer};
 use crate::session::Session;
 use crate::session::command::{Outstanding, SessionError};
 use rectangle_pack_bins::target_bin::TargetBin;
+use rectangle_pack_covers::parts::{add_with_cells, all_of};
 use rectangle_pack_plans::cut_plan::{CutStep, plan_of};
 use rectangle_pack_sections::bin_section::{BinSection, has_cells};
 use rectangle_pack_sections::packed_location::section_at;
@@ -23,20 +24,6 @@ fn gather<A: Allocator>(
 {
     if has_cells(&section) {
         boxes.push(section)?;
-    }
-    Ok(())
-}
-
-// Puts the free sections with cells at the end of the list.
-fn gather_free<A: Allocator>(
-    boxes: &mut Vec<BinSection, A>,
-    sections: &[BinSection],
-) -> Result<(), AllocError>
-    ensures { OnOk result
-        (boxes.new.items ≡ boxes.old.items ++ filter has_cells sections.now) }
-{
-    for section in sections {
-        gather(boxes, *section)?;
     }
     Ok(())
 }
@@ -64,7 +51,7 @@ pub(crate) fn whole<A: Allocator + Copy>(bin: &TargetBin<A>) -> BinSection
     ensures whole { result ≡ whole bin.now.bin.size }
     ensures fits { FitsU32 result }
 {
-    BinSection::new(0, 0, 0, bin.max_size())
+    all_of(bin.max_size())
 }
 
 // The boxes with cells of a bin: its free sections, and the outstanding ones.
@@ -78,7 +65,7 @@ fn boxes_of<Id, B: Ord, A: Allocator + Copy>(
         (λ v. v.items ≡ filter has_cells (boxes_of B.cmp outstanding.now id.now bin.now.bin)) }
 {
     let mut boxes = Vec::new(alloc);
-    gather_free(&mut boxes, bin.available_bin_sections().as_slice())?;
+    add_with_cells(&mut boxes, bin.available_bin_sections().as_slice())?;
     gather_outstanding(&mut boxes, outstanding, id)?;
     Ok(boxes)
 }

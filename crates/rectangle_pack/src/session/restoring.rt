@@ -5,14 +5,15 @@ ghost use Rattle.rectangle_pack_sections.specs.Bins.{bins_of};
 ghost use Rattle.rectangle_pack_covers.specs.Covers.{IsBinAnswer};
 ghost use Rattle.rectangle_pack.specs.Session.{IsSession, outstanding_in};
 ghost use Rattle.rectangle_pack.specs.Restoring.{IsBinOfSections, IsNoSession, IsRestored, state_of_parts};
-ghost use Rattle.rectangle_pack.specs.RestoringTexts.{restore_text};
+ghost use Rattle.rectangle_pack.specs.RestoringTexts.{bin_text, restore_text};
 ghost use Rattle.rectangle_pack.specs.private.Restoring.{IsRecordAnswer, IsWholeAnswer, boxes_at};
 
 use crate::session::Session;
 use crate::session::command::Outstanding;
 use crate::session::records::Records;
 use rectangle_pack_bins::target_bin::{TargetBin, bin_of_sections, was_coalesced};
-use rectangle_pack_covers::covers::{BinFault, SectionsError, first_fault_in_bin, first_unsound};
+use rectangle_pack_covers::covers::{BinFault, first_fault_in_bin};
+use rectangle_pack_covers::sections::{SectionsError, check_sections};
 use rectangle_pack_lists::corners::Corners;
 use rectangle_pack_sections::bin_section::BinSection;
 use rectangle_pack_sections::packed_location::section_at;
@@ -22,8 +23,8 @@ use std::collections::BTreeMap;
 use std::error::Error;
 use std::fmt;
 
-/// The parts of a session, as values that can be saved. A bin says its free sections and its size;
-/// whether it counts as coalesced, `Session::was_coalesced` answers.
+/// The parts of a session, as values that can be saved. A bin says its size and its free sections;
+/// whether it counts as coalesced, `was_coalesced` answers.
 #[derive(Drop)]
 pub struct SessionParts<Id, BinId: Ord, A: Allocator + Copy = Global> {
     /// The bins, each with its free sections.
@@ -53,15 +54,15 @@ pub enum RestoreError {
         /// The placement.
         placement: usize,
     },
-    /// The free sections of a bin, and behind them its placements, are not all of it. They are named
-    /// by their places among these.
+    /// The free sections of a bin, and behind them its placements, are not all of it. They are
+    /// named by their places in this list.
     WrongBin {
         /// The bin.
         bin: usize,
         /// What is wrong.
         fault: BinFault,
     },
-    /// A growth was refused.
+    /// Memory was refused.
     OutOfMemory,
 }
 
@@ -78,11 +79,21 @@ impl RestoreError {
                 "The number of a placement is not below the next number."
             }
             RestoreError::UnknownBin { .. } => "The bin of a placement is not there.",
-            RestoreError::WrongBin { .. } => {
-                "The free sections and placements of a bin are not all of it."
-            }
+            RestoreError::WrongBin { fault, .. } => bin_text(fault),
             RestoreError::OutOfMemory => "Out of memory.",
         }
+    }
+}
+
+// The text for a fault of a bin.
+fn bin_text(fault: &BinFault) -> &'static str
+    ensures { result.now ≡ bin_text fault.now }
+{
+    match fault {
+        BinFault::Outside { .. } => "A free section or placement is not inside its bin.",
+        BinFault::SharesCell { .. } => "Two free sections or placements share a cell.",
+        BinFault::CellInNone => "A cell of a bin is in no free section or placement.",
+        BinFault::NotFromCuts => "No straight cuts leave what is in a bin.",
     }
 }
 
@@ -113,11 +124,20 @@ impl From<AllocError> for RestoreError {
 }
 
 /// A bin of this size, in cells, with these free sections, which counts as coalesced where
-/// `was_coalesced` is true. `Wrong` names the first section that is outside the bin, or, where none
-/// is, the first that shares a cell with an earlier one, by their places in the list. Fails with
-/// `OutOfMemory` when memory is refused.
+/// `was_coalesced` is true. The error names the first section that is outside the bin; or, where
+/// none is, the first that shares a cell with an earlier one. Fails with `OutOfMemory` when memory
+/// is refused.
 ///
-/// The time is about that of a sort of the sections.
+/// The time is about that of a sort of the sections, but for sections that were laid to defy it,
+/// which may take the square.
+///
+/// ```
+/// let size = WidthHeightDepth::new(10, 10, 1);
+/// let right = BinSection::new(4, 0, 0, WidthHeightDepth::new(6, 10, 1));
+/// let free = vec![in alloc; right]?;
+/// let bin = bin_of_free_sections(alloc, size, free, false)?;
+/// assert_eq!(rt; bin.available_bin_sections().as_slice(), [right].as_slice());
+/// ```
 pub fn bin_of_free_sections<A: Allocator + Copy>(
     alloc: A,
     max_size: WidthHeightDepth,
@@ -127,15 +147,13 @@ pub fn bin_of_free_sections<A: Allocator + Copy>(
     // A bin: each section is inside it, and no two share a cell. It has this size and these free
     //   sections, in their order, and counts as coalesced where that is said.
     //   [bin_of_free_sections.bin_counts_as_new]
-    // `Wrong`: the first section that is not inside a bin of this size; or, where each is, the
-    //   first two that share a cell. So no bin has these free sections.
-    //   [first_unsound.later_half_is_not_looked_at, first_outside.first_box_is_not_looked_at]
+    // `Outside`: the first section that is not inside a bin of this size. `SharesCell`: each is
+    //   inside; the first two that share a cell. So no bin has these free sections.
+    //   [check_sections.later_half_is_not_looked_at, first_outside.first_box_is_not_looked_at]
     ensures { IsBinOfSections max_size sections.items was_coalesced result }
 {
-    match first_unsound(alloc, max_size, sections.as_slice())? {
-        None => Ok(bin_of_sections(max_size, sections, was_coalesced)),
-        Some(fault) => Err(SectionsError::Wrong(fault)),
-    }
+    check_sections(alloc, max_size, sections.as_slice())?;
+    Ok(bin_of_sections(max_size, sections, was_coalesced))
 }
 
 // Whether a number is above the last one, if there is one.
@@ -297,7 +315,8 @@ where
     ///
     /// The error says what is wrong first. Fails with `OutOfMemory` when memory is refused.
     ///
-    /// The time is about that of a sort of all placements and free sections.
+    /// The time is about that of a sort of all placements and free sections, but for boxes that
+    /// were laid to defy it, which may take the square.
     ///
     /// ```
     /// let mut session: Session<u32, u32> = Session::new(alloc, 0);

@@ -2,11 +2,10 @@
 use Rattle.std.specs.Prelude.{ℕ, ⊤, ◌≡◌, ◌==◌, not, List, [], ◌∷◌, map, take, drop, All, Err}
 use Rattle.std.specs.BTreeMap.{insert_entry}
 use Rattle.std.specs.Ordering.{nat_cmp}
-use Rattle.rectangle_pack.specs.declared.SectionsError.TheVariants.{Wrong}
 use Rattle.rectangle_pack.specs.declared.session.command.Outstanding.{Outstanding}
 use Rattle.rectangle_pack.specs.declared.session.restoring.RestoreError.TheVariants.{OutOfMemory}
 use Rattle.rectangle_pack.specs.Bins.{Bin, IsSound}
-use Rattle.rectangle_pack.specs.Restoring.{IsBinOfSections}
+use Rattle.rectangle_pack.specs.Covers.{IsSectionsAnswer}
 use Rattle.rectangle_pack.specs.Session.{State}
 use Rattle.rectangle_pack_c.specs.declared.reading.RpSection.{RpSection}
 use Rattle.rectangle_pack_c.specs.declared.reading.RpStanding.{RpStanding}
@@ -53,7 +52,6 @@ pub record IsBinPut (b : RpSavedBin) (own : List RpSection) (old new : List (ℕ
 
 -- why the saved bin at this place is not put into a map
 abbrev pub IsFaultOfBin : ℕ → RpSavedBin → List RpSection → SavedError → Type 0
-IsFaultOfBin place b own (Sections bin fault) =
-    (bin ≡ place) × IsBinOfSections (bin_size b.size) (map box_of own) (not (b.coalesced == 0)) (Err (Wrong fault))
+IsFaultOfBin place b own (Sections bin error) = (bin ≡ place) × IsSectionsAnswer (bin_size b.size) (map box_of own) (Err error)
 IsFaultOfBin place b own (Parts OutOfMemory) = ⊤
 IsFaultOfBin place b own _ = ⊥

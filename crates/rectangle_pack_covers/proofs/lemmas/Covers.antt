@@ -6,30 +6,20 @@ use Rattle.rectangle_pack_sections.specs.Boxes.{Size, Cuboid, IsCellOf, IsInside
 use Rattle.rectangle_pack_sections.specs.Counting.{times_filled, AreAllApart}
 use Rattle.rectangle_pack_sections.specs.Covering.{CoverBin}
 use Rattle.rectangle_pack_sections.specs.CutTrees.{IsFromCuts}
-use Rattle.rectangle_pack_sections.proofs.lemmas.cuts.CoverVolumes.{CoverBin-volume}
 use Rattle.rectangle_pack_sections.proofs.lemmas.util.Lists.{All-middle}
 use Rattle.rectangle_pack_covers.specs.declared.covers.BinFault.{BinFault}
 use Rattle.rectangle_pack_covers.specs.declared.covers.BinFault.TheVariants.{Outside, SharesCell, CellInNone, NotFromCuts}
 use Rattle.rectangle_pack_sections.proofs.lemmas.cuts.Counting.{filled-append, filled_yes, filled_from_some}
 use Rattle.rectangle_pack_overlaps.specs.declared.overlaps.Standing.{Standing}
 use Rattle.rectangle_pack_overlaps.specs.Overlaps.{AreClear}
-use Rattle.rectangle_pack_overlaps.proofs.lemmas.Piles.{split_here}
-use Rattle.rectangle_pack_covers.specs.Covers.{IsFirstOutside, IsBinAnswer, in_one_bin}
+use Rattle.rectangle_pack_overlaps.proofs.lemmas.Places.{at_here, split_here}
+use Rattle.rectangle_pack_covers.specs.Covers.{IsFirstOutside, AreFirstSharing, IsBinAnswer, in_one_bin}
 
 pub IsFirstOutside-at : (size : Size) (boxes : List Cuboid) (i : ℕ) → i < length boxes → HoldsAt (λ b. ¬ IsInside size b) boxes i
     → All (IsInside size) (take i boxes) → IsFirstOutside size boxes i
 IsFirstOutside-at size boxes i within outside before =
     let none : Cuboid = whole size in
-    let one : Cuboid = get_or boxes i none in
-    record {
-      before = take i boxes;
-      one = one;
-      after = drop (i + 1) boxes;
-      splits = split_here boxes i one within (sym (get_or_default boxes i one none within));
-      index_is = sym (length-take-le i boxes (omega arith));
-      inside = before;
-      outside = outside none;
-    }
+    (at_here boxes i (get_or boxes i none) within (sym (get_or_default boxes i (get_or boxes i none) none within)), before, outside none)
 
 -- a box alone in a bin
 abbrev alone : Cuboid → Standing
@@ -80,14 +70,22 @@ before_one R xs before x after is h = λ k d within.
     let pair = pairs k (length before) d within (omega (arith, length-append before (x ∷ after))) in
     rw (get_or_append_left before (x ∷ after) d k within, get_or-append_seam before x after d) at pair
 
+-- boxes of which one is outside, or two share a cell, do not cover the bin
+pub outside-no_cover : (size : Size) (boxes : List Cuboid) (index : ℕ) → IsFirstOutside size boxes index → ¬ CoverBin boxes size
+outside-no_cover size boxes index (at, before, outside) = λ cover. outside (All-middle (IsInside size) boxes at.before at.after at.one at.splits cover.inside)
+
+pub sharing-no_cover : (size : Size) (boxes : List Cuboid) (first second : ℕ) → AreFirstSharing size boxes first second → ¬ CoverBin boxes size
+sharing-no_cover size boxes first second (inside, o) = λ cover.
+    let later = o.later in
+    let earlier = o.earlier in
+    let clear = before_one AreClear (in_one_bin boxes) later.before later.one later.after later.splits (in_one_bin-clear boxes (CoverBin-apart boxes size cover)) in
+    let apart = All-middle (λ b. AreClear b later.one) later.before earlier.before earlier.after earlier.one earlier.splits clear o.clash.one_bin in
+    apart.none o.clash.shares.cell o.clash.shares.in_first o.clash.shares.in_second
+
 -- what is answered as a fault is one: the boxes do not cover the bin, or they are not from cuts of it, where that is asked
 pub IsBinAnswer-fault : (size : Size) (asked : Bool) (boxes : List Cuboid) (fault : BinFault) → IsBinAnswer size asked boxes (Some fault)
     → CoverBin boxes size → (asked ≡ true → IsFromCuts boxes (whole size)) → ⊥
-IsBinAnswer-fault size asked boxes (Outside index) h cover cuts = h.outside (All-middle (IsInside size) boxes h.before h.after h.one h.splits cover.inside)
-IsBinAnswer-fault size asked boxes (SharesCell first second) h cover cuts =
-    let o = h.1 in
-    let clear = before_one AreClear (in_one_bin boxes) o.earlier o.other o.after o.splits (in_one_bin-clear boxes (CoverBin-apart boxes size cover)) in
-    let apart = All-middle (λ b. AreClear b o.other) o.earlier o.before o.between o.one o.splits_earlier clear o.clash.one_bin in
-    apart.none o.clash.shares.cell o.clash.shares.in_first o.clash.shares.in_second
-IsBinAnswer-fault size asked boxes CellInNone h cover cuts = h.1 (CoverBin-volume boxes size cover)
+IsBinAnswer-fault size asked boxes (Outside index) h cover cuts = outside-no_cover size boxes index h cover
+IsBinAnswer-fault size asked boxes (SharesCell first second) h cover cuts = sharing-no_cover size boxes first second h cover
+IsBinAnswer-fault size asked boxes CellInNone h cover cuts = h.1 cover
 IsBinAnswer-fault size asked boxes NotFromCuts h cover cuts = h.2 (cuts h.1)

@@ -14,7 +14,7 @@ use Rattle.rectangle_pack_judge.specs.declared.case.Conflict.{Conflict}
 use Rattle.rectangle_pack_judge.specs.declared.case.Conflict.TheVariants.{PlacedTwice, SharesCell, GroupInTwoBins, ExcludedTogether}
 use Rattle.rectangle_pack_judge.specs.declared.judging.Fault.{Fault}
 use Rattle.rectangle_pack_judge.specs.declared.judging.Fault.TheVariants.{Alone, Together, NotPlaced}
-use Rattle.rectangle_pack_judge.specs.Judging.{StandsAlone, IsAloneAnswer, IsConflict, IsFree, IsPartOfPacking, ComesAfterPart}
+use Rattle.rectangle_pack_judge.specs.Judging.{StandsAlone, IsAloneAnswer, IsConflict, IsFree, IsPartOfPacking}
 use Rattle.rectangle_pack_judge.specs.Judging.{IsTogetherFault, IsVerdict, group_of, are_apart}
 
 -- the claim names an entry of the case
@@ -93,16 +93,6 @@ module _ (one other : Case) (alike : AreAlike one other) where
         free-to kind (get_or claims i d) (get_or claims j d) (h.alone i d (omega arith)).entry (h.alone j d within).entry (h.together i j d below within kind);
   }
 
-  abbrev after-to : (claims : List Claim) (place : ℕ) → ComesAfterPart one claims place → ComesAfterPart other claims place
-  after-to claims place h = record {
-    earlier = h.earlier;
-    claim = h.claim;
-    after = h.after;
-    splits = h.splits;
-    place_is = h.place_is;
-    part = part-to h.earlier h.part;
-  }
-
   free_all-to : (kind : Conflict) (c : Claim) (earlier : List Claim) → IsKnown one c → All (IsKnown one) earlier
       → All (λ a. IsFree one kind a c) earlier → All (λ a. IsFree other kind a c) earlier
   free_all-to kind c earlier known all h = λ k d within. free-to kind (get_or earlier k d) c (all k d within) known (h k d within)
@@ -110,15 +100,12 @@ module _ (one other : Case) (alike : AreAlike one other) where
   together-to : (earlier : List Claim) (c : Claim) (first : ℕ) (kind : Conflict) → IsKnown one c → All (IsKnown one) earlier
       → IsTogetherFault one earlier c first kind → IsTogetherFault other earlier c first kind
   together-to earlier c first kind known all h =
-      let split : All (IsKnown one) (h.before ++ h.one ∷ h.between) = subst (All (IsKnown one)) h.splits all in
+      let at = h.at in
+      let split : All (IsKnown one) (at.before ++ at.one ∷ at.after) = subst (All (IsKnown one)) at.splits all in
       record {
-        before = h.before;
-        one = h.one;
-        between = h.between;
-        splits = h.splits;
-        first_is = h.first_is;
-        is = conflict-to kind h.one c (All-head (IsKnown one) h.one h.between (All-back (IsKnown one) h.before (h.one ∷ h.between) split)) known h.is;
-        none_before = free_all-to kind c h.before known (All-front (IsKnown one) h.before (h.one ∷ h.between) split) h.none_before;
+        at = at;
+        is = conflict-to kind at.one c (All-head (IsKnown one) at.one at.after (All-back (IsKnown one) at.before (at.one ∷ at.after) split)) known h.is;
+        none_before = free_all-to kind c at.before known (All-front (IsKnown one) at.before (at.one ∷ at.after) split) h.none_before;
         no_other = λ e lower. free_all-to e c earlier known all (h.no_other e lower);
       }
 
@@ -127,10 +114,11 @@ module _ (one other : Case) (alike : AreAlike one other) where
 
   pub verdict-to : (claims : List Claim) (r : Option Fault) → IsVerdict one claims r → IsVerdict other claims r
   verdict-to claims None h = record { part = part-to claims h.part; whole = λ entry within. h.whole entry (omega (arith, as_many)) }
-  verdict-to claims (Some (Alone place fault)) h = (after-to claims place h.0, alone_answer-to h.0.claim (Some fault) h.1)
+  verdict-to claims (Some (Alone place fault)) h = (h.0, part-to h.0.before h.1, alone_answer-to h.0.one (Some fault) h.2)
   verdict-to claims (Some (Together first second kind)) h = (
-    after-to claims second h.0,
-    alone-to h.0.claim h.1,
-    together-to h.0.earlier h.0.claim first kind h.1.entry (known_all h.0.earlier h.0.part) h.2,
+    h.0,
+    part-to h.0.before h.1,
+    alone-to h.0.one h.2,
+    together-to h.0.before h.0.one first kind h.2.entry (known_all h.0.before h.1) h.3,
   )
   verdict-to claims (Some (NotPlaced entry)) h = (part-to claims h.0, omega (arith, h.1, as_many), h.2, h.3)

@@ -6,7 +6,8 @@ use Rattle.std.proofs.lemmas.List.Folds.{Any-from_list_any}
 use Rattle.rectangle_pack_judge.specs.declared.case.Case.{Case}
 use Rattle.rectangle_pack_judge.specs.declared.case.Claim.{Claim}
 use Rattle.rectangle_pack_judge.specs.declared.case.Conflict.TheVariants.{GroupInTwoBins, ExcludedTogether}
-use Rattle.rectangle_pack_judge.specs.Judging.{StandsAlone, IsFree, HaveGroups, group_of, are_these, are_apart}
+use Rattle.rectangle_pack_judge.specs.Judging.{StandsAlone, IsFree, group_of, are_these, are_apart}
+use Rattle.rectangle_pack_judge.specs.private.Numbers.{HaveGroups}
 use Rattle.rectangle_pack_judge.specs.private.Firsts.{IsFirst, AreFirsts, IsLater}
 use Rattle.rectangle_pack_judge.proofs.lemmas.Firsts.{group_of-below}
 

@@ -1,7 +1,7 @@
 -- The first claim that is in conflict with an earlier one.
 use Rattle.rectangle_pack_sections.proofs.Std.{ℕ, zero, suc, ◌+◌, ◌<◌, ◌≤◌, ◌≡◌, ◌≢◌, Bool, true, false, List, [], ◌∷◌, length, map, take, get_or, set}
 use Rattle.rectangle_pack_sections.proofs.Std.{All, AllPairs, Contains, Option, Some, None, refl, ap, sym, ◌∙◌, subst, arith, inl, inr, cases_lt, cases_eq, both_ways}
-use Rattle.rectangle_pack_sections.proofs.Std.{get_or-take, length-take-le, take_all, get_or_default, get_or_append_left, length-append, length-set}
+use Rattle.rectangle_pack_sections.proofs.Std.{get_or-take, length-take-le, take_all, get_or_default, get_or_append_left, length-set}
 use Rattle.rectangle_pack_sections.proofs.Std.{get_or-set_same, get_or-set_other, length-map, take-take, All-weaker, list_any, IsTrue, rules}
 use Rattle.std.proofs.lemmas.List.Folds.{Any-from_list_any}
 use Rattle.std.proofs.Math.Seq.{get_or-append_seam}
@@ -10,10 +10,12 @@ use Rattle.rectangle_pack_sections.proofs.lemmas.cuts.Boxes.{not_from_AreApart}
 use Rattle.rectangle_pack_overlaps.specs.declared.overlaps.Standing.{Standing}
 use Rattle.rectangle_pack_overlaps.specs.declared.overlaps.Overlap.{Overlap}
 use Rattle.rectangle_pack_overlaps.specs.Overlaps.{AreClear, IsFirstOverlap}
+use Rattle.rectangle_pack_overlaps.proofs.lemmas.Places.{place_within}
 use Rattle.rectangle_pack_judge.specs.declared.case.Case.{Case}
 use Rattle.rectangle_pack_judge.specs.declared.case.Claim.{Claim}
 use Rattle.rectangle_pack_judge.specs.declared.case.Conflict.TheVariants.{PlacedTwice, SharesCell, GroupInTwoBins, ExcludedTogether}
-use Rattle.rectangle_pack_judge.specs.Judging.{StandsAlone, IsFree, group_of, HaveGroups, GoTogether, no_entry}
+use Rattle.rectangle_pack_judge.specs.Judging.{StandsAlone, IsFree, group_of, GoTogether, no_entry}
+use Rattle.rectangle_pack_judge.specs.private.Numbers.{HaveGroups}
 use Rattle.rectangle_pack_judge.specs.private.Firsts.{IsFirst, AreMarked, AreHomes}
 
 -- a size that some of these equals is one of these
@@ -79,29 +81,31 @@ module _ (case : Case) (claims : List Claim) where
   pub IsFirst-shared : (o : Overlap) → IsFirstOverlap (map standing claims) o → IsFirst (IsFree case SharesCell) claims o.second
   IsFirst-shared o h =
       let all = map standing claims in
-      let long : length all ≡ length h.earlier + suc (length h.after) = ap length h.splits ∙ length-append h.earlier (h.other ∷ h.after) in
+      let later = h.later in
+      let earlier = h.earlier in
       let as_many = length-map claims standing in
-      let within : o.second < length claims = omega (arith, long, as_many, h.second) in
-      let earlier_at : (k : ℕ) (d : Claim) → k < o.second → get_or h.earlier k (standing d) ≡ standing (get_or claims k d) = λ k d lt.
-      sym (get_or_append_left h.earlier (h.other ∷ h.after) (standing d) k (omega (arith, h.second)))
-      ∙ ap (λ bs. get_or bs k (standing d)) (sym h.splits) ∙ map_at standing claims k d in
-      let other_at : (d : Claim) → h.other ≡ standing (get_or claims o.second d) = λ d.
-      sym (get_or-append_seam h.earlier h.other h.after (standing d))
-      ∙ ap (λ bs. get_or bs (length h.earlier) (standing d)) (sym h.splits)
-      ∙ ap (λ n. get_or all n (standing d)) (sym h.second) ∙ map_at standing claims o.second d in
-      let before : length h.before < o.second = omega (arith, h.second, ap length h.splits_earlier, length-append h.before (h.one ∷ h.between)) in
-      let one_at : (d : Claim) → h.one ≡ standing (get_or claims (length h.before) d) = λ d.
-      sym (get_or-append_seam h.before h.one h.between (standing d))
-      ∙ ap (λ bs. get_or bs (length h.before) (standing d)) (sym h.splits_earlier) ∙ earlier_at (length h.before) d before in
+      let within : o.second < length claims = omega (arith, as_many, place_within all o.second later) in
+      let earlier_at : (k : ℕ) (d : Claim) → k < o.second → get_or later.before k (standing d) ≡ standing (get_or claims k d) = λ k d lt.
+      sym (get_or_append_left later.before (later.one ∷ later.after) (standing d) k (omega (arith, later.place_is)))
+      ∙ ap (λ bs. get_or bs k (standing d)) (sym later.splits) ∙ map_at standing claims k d in
+      let other_at : (d : Claim) → later.one ≡ standing (get_or claims o.second d) = λ d.
+      sym (get_or-append_seam later.before later.one later.after (standing d))
+      ∙ ap (λ bs. get_or bs (length later.before) (standing d)) (sym later.splits)
+      ∙ ap (λ n. get_or all n (standing d)) (sym later.place_is) ∙ map_at standing claims o.second d in
+      let before : o.first < o.second = omega (arith, later.place_is, place_within later.before o.first earlier) in
+      let one_at : (d : Claim) → earlier.one ≡ standing (get_or claims o.first d) = λ d.
+      sym (get_or-append_seam earlier.before earlier.one earlier.after (standing d))
+      ∙ ap (λ bs. get_or bs (length earlier.before) (standing d)) (sym earlier.splits)
+      ∙ ap (λ n. get_or later.before n (standing d)) (sym earlier.place_is) ∙ earlier_at o.first d before in
       let size = length-take-le o.second claims (omega arith) in
-      IsFirst-here (IsFree case SharesCell) claims o.second (length h.before) within
+      IsFirst-here (IsFree case SharesCell) claims o.second o.first within
       (λ i j d below inside.
       rw (get_or-take o.second claims i d (omega arith), get_or-take o.second claims j d (omega arith))
-      (rw (earlier_at i d (omega arith), earlier_at j d (omega arith)) at (h.clear i j (standing d) below (omega (arith, h.second)))))
+      (rw (earlier_at i d (omega arith), earlier_at j d (omega arith)) at (h.clear i j (standing d) below (omega (arith, later.place_is)))))
       before
       (λ d free.
-      let clear : AreClear h.one h.other = rw (one_at d, other_at d) free in
-      not_from_AreApart h.one.section h.other.section (clear h.clash.one_bin) h.clash.shares)
+      let clear : AreClear earlier.one later.one = rw (one_at d, other_at d) free in
+      not_from_AreApart earlier.one.section later.one.section (clear h.clash.one_bin) h.clash.shares)
 
   -- entries that are placed
   pub AreMarked-more : (i : ℕ) (here : Claim) (marks : List Bool) → i < length claims → here ≡ get_or claims i here → here.entry < length marks

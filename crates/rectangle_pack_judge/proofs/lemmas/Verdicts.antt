@@ -1,9 +1,10 @@
 -- What a judge answers.
-use Rattle.rectangle_pack_sections.proofs.Std.{ℕ, zero, suc, ◌+◌, ◌<◌, ◌≤◌, ◌≡◌, ◌≢◌, Bool, true, false, List, [], ◌∷◌, ◌++◌, length, take, drop, get_or}
+use Rattle.rectangle_pack_sections.proofs.Std.{ℕ, zero, suc, ◌+◌, ◌<◌, ◌≤◌, ◌≡◌, ◌≢◌, Bool, true, false, List, [], ◌∷◌, ◌++◌, length, take, get_or}
 use Rattle.rectangle_pack_sections.proofs.Std.{All, AllPairs, AllWithin, HoldsAt, MatchOption, Option, Some, None, is_some, option_map, refl, ap, sym, ◌∙◌, subst, arith, inl, inr, cases_lt, both_ways}
+use Rattle.rectangle_pack_sections.proofs.Std.{AllocError, Result, Ok, Err, IfOk}
 use Rattle.rectangle_pack_sections.proofs.Std.{get_or-take, length-take-le, take_all, get_or_default, take_more, take-take, All-append, All-cons, All-nil}
 use Rattle.rectangle_pack_sections.specs.Boxes.{Size}
-use Rattle.rectangle_pack_overlaps.proofs.lemmas.Piles.{split_here}
+use Rattle.rectangle_pack_overlaps.proofs.lemmas.Places.{at_here}
 use Rattle.rectangle_pack_judge.specs.declared.case.Case.{Case}
 use Rattle.rectangle_pack_judge.specs.declared.case.Claim.{Claim}
 use Rattle.rectangle_pack_judge.specs.declared.case.AloneFault.{AloneFault}
@@ -12,7 +13,7 @@ use Rattle.rectangle_pack_judge.specs.declared.case.Conflict.{Conflict}
 use Rattle.rectangle_pack_judge.specs.declared.case.Conflict.TheVariants.{PlacedTwice, SharesCell, GroupInTwoBins, ExcludedTogether}
 use Rattle.rectangle_pack_judge.specs.declared.judging.Fault.{Fault}
 use Rattle.rectangle_pack_judge.specs.declared.judging.Fault.TheVariants.{Alone, Together, NotPlaced}
-use Rattle.rectangle_pack_judge.specs.Judging.{StandsAlone, IsAloneAnswer, IsConflict, IsFree, GoTogether, IsPartOfPacking, IsPlaced, IsTogetherFault, ComesAfterPart, IsVerdict, no_entry, rank}
+use Rattle.rectangle_pack_judge.specs.Judging.{StandsAlone, IsAloneAnswer, IsConflict, IsFree, GoTogether, IsPartOfPacking, IsPlaced, IsTogetherFault, IsVerdict, no_entry, rank}
 use Rattle.rectangle_pack_judge.specs.private.Firsts.{IsFirst, AreMarked, IsFirstAlone, IsTogetherAnswer}
 
 no_claim : Claim
@@ -94,19 +95,8 @@ module _ (case : Case) where
             together = subst (AllPairs (GoTogether case)) (take-take found alone claims below) h.free;
           }
 
-      after_part : (claim : Claim) → found < length claims → claim ≡ get_or claims found claim → ComesAfterPart case claims found
-      after_part claim within at = record {
-        earlier = take found claims;
-        claim = claim;
-        after = drop (found + 1) claims;
-        splits = split_here claims found claim within at;
-        place_is = sym (length-take-le found claims (omega arith));
-        part = part;
-      }
-
-      pub verdict-together : (claim : Claim) (r : Option Fault) → found < alone → claim ≡ get_or claims found claim
+      verdict-together : (claim : Claim) (r : Option Fault) → found < alone → claim ≡ get_or claims found claim
           → IsTogetherAnswer case (take found claims) claim r → IsVerdict case claims r
-      unfolding after_part
       verdict-together claim None less at all =
           let there : get_or (take alone claims) found claim ≡ claim = get_or-take alone claims found claim less ∙ sym at in
           absurd (h.bad claim (omega (arith, less, length-take-le alone claims first.at_most))
@@ -118,28 +108,29 @@ module _ (case : Case) where
           let is : second ≡ found = answer.0 ∙ short in
           let stands : StandsAlone case claim =
           subst (StandsAlone case) (get_or-take alone claims found claim less ∙ sym at) (first.alone found claim (omega (arith, less, length-take-le alone claims first.at_most))) in
-          subst (λ n. IsVerdict case claims (Some (Together one n kind))) (sym is) (after_part claim within at, stands, answer.1)
+          subst (λ n. IsVerdict case claims (Some (Together one n kind))) (sym is) (at_here claims found claim within at, part, stands, answer.1)
       verdict-together claim (Some (Alone place fault)) less at answer = absurd answer
       verdict-together claim (Some (NotPlaced entry)) less at answer = absurd answer
 
+      -- as it is answered, unless memory was refused
+      pub verdict-if : (claim : Claim) (r : Result (Option Fault) AllocError) → found < alone → claim ≡ get_or claims found claim
+          → IfOk r (IsTogetherAnswer case (take found claims) claim) → IfOk r (IsVerdict case claims)
+      verdict-if claim (Ok fault) less at answer = verdict-together claim fault less at answer
+      verdict-if claim (Err refused) less at answer = tt
+
       pub verdict-alone : (claim : Claim) (r : Option AloneFault) → alone ≤ found → alone < length claims → claim ≡ get_or claims alone claim
           → IsAloneAnswer case claim r → IsVerdict case claims (option_map (λ fault. Alone alone fault) r)
-      unfolding after_part
       verdict-alone claim None ends within at stands = absurd (first.bad claim within (subst (StandsAlone case) at stands))
       verdict-alone claim (Some fault) ends within at answer =
           let is : found ≡ alone = omega (arith, below) in
           subst (λ n. IsVerdict case claims (Some (Alone n fault))) is
-          (after_part claim (omega (arith, is, within)) (subst (λ n. claim ≡ get_or claims n claim) (sym is) at), answer)
+          (at_here claims found claim (omega (arith, is, within)) (subst (λ n. claim ≡ get_or claims n claim) (sym is) at), part, answer)
 
   IsTogetherFault-at : (earlier : List Claim) (c : Claim) (kind : Conflict) (i : ℕ) → i < length earlier → HoldsAt (λ a. IsConflict case kind a c) earlier i
       → All (λ a. IsFree case kind a c) (take i earlier) → ((other : Conflict) → rank other < rank kind → All (λ a. IsFree case other a c) earlier)
       → IsTogetherFault case earlier c i kind
   IsTogetherFault-at earlier c kind i within is none others = record {
-    before = take i earlier;
-    one = get_or earlier i c;
-    between = drop (i + 1) earlier;
-    splits = split_here earlier i (get_or earlier i c) within (get_or_default earlier i c (get_or earlier i c) within);
-    first_is = sym (length-take-le i earlier (omega arith));
+    at = at_here earlier i (get_or earlier i c) within (get_or_default earlier i c (get_or earlier i c) within);
     is = is c;
     none_before = none;
     no_other = others;

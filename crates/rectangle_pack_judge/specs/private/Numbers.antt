@@ -3,7 +3,12 @@ use Rattle.std.specs.Prelude.{ℕ, ◌≡◌, ◌<◌, List, [], ◌∷◌, ◌+
 use Rattle.std.specs.BTreeMap.{is_at}
 use Rattle.std.specs.Map.{lookup}
 use Rattle.std.specs.Ordering.{nat_cmp}
+use Rattle.rectangle_pack_judge.specs.declared.case.Case.{Case}
 use Rattle.rectangle_pack_judge.specs.declared.case.Entry.{Entry}
+
+-- the number of each group is below `groups`
+abbrev pub HaveGroups : Case → ℕ → Type 0
+HaveGroups case groups = All (λ e. e.group < groups) case.entries.now
 
 -- the number of a group, if it has one
 abbrev pub number_at : List (ℕ × ℕ) → ℕ → Option ℕ

@@ -1,7 +1,7 @@
 -- Boxes in piles, one for each bin.
-use Rattle.rectangle_pack_sections.proofs.Std.{ℕ, ◌+◌, ◌<◌, ◌≡◌, ◌≢◌, List, [], ◌∷◌, ◌++◌, length, take, drop, get_or, set}
-use Rattle.rectangle_pack_sections.proofs.Std.{All, Any, HoldsAt, Vec, refl, ap, sym, ◌∙◌, subst, arith, inl, inr, cases_lt, cases_eq, suc}
-use Rattle.rectangle_pack_sections.proofs.Std.{All-nil, All-cons, All-append, All-weaker, get_or-take, length-take-le, get_or_default, split_at}
+use Rattle.rectangle_pack_sections.proofs.Std.{ℕ, ◌+◌, ◌<◌, ◌≡◌, ◌≢◌, List, [], ◌∷◌, ◌++◌, length, take, get_or, set}
+use Rattle.rectangle_pack_sections.proofs.Std.{All, Any, HoldsAt, Vec, refl, ap, sym, ◌∙◌, subst, arith, inl, inr, cases_lt, cases_eq}
+use Rattle.rectangle_pack_sections.proofs.Std.{All-nil, All-cons, All-append, All-weaker, get_or-take, length-take-le, get_or_default}
 use Rattle.rectangle_pack_sections.proofs.Std.{length-set, get_or-set_same, get_or-set_other, length-append, get_or_append_left}
 use Rattle.std.proofs.lemmas.List.Quantifiers.{Any-push}
 use Rattle.rectangle_pack_sections.specs.Boxes.{Cuboid, AreApart}
@@ -11,15 +11,10 @@ use Rattle.rectangle_pack_overlaps.specs.declared.parting.Numbered.{Numbered}
 use Rattle.rectangle_pack_overlaps.specs.Overlaps.{Clash, AreClear, IsFirstOverlap}
 use Rattle.rectangle_pack_overlaps.specs.private.Parting.{AreRising, IsFound}
 use Rattle.rectangle_pack_overlaps.specs.private.Piles.{IsOf, IsPile, ArePiles, IsFirstBadIn, IsFirstBad}
+use Rattle.rectangle_pack_overlaps.proofs.lemmas.Places.{at_here}
 
 Any-front : {X : Type 0} (P : X → Type 0) (xs ys : List X) → Any P xs → Any P (xs ++ ys)
 Any-front P xs ys h = (h.0, h.1, omega (arith, h.2, length-append xs ys), get_or_append_left xs ys h.1 h.0 h.2 ∙ h.3, h.4)
-
--- a list, split at a place
-pub split_here : {X : Type 0} (xs : List X) (i : ℕ) (x : X) → i < length xs → x ≡ get_or xs i x → xs ≡ take i xs ++ x ∷ drop (i + 1) xs
-split_here xs i x within at =
-    let on : suc i ≡ i + 1 = omega arith in
-    split_at xs i x within ∙ ap (λ y. take i xs ++ y ∷ drop (suc i) xs) (sym at) ∙ ap (λ n. take i xs ++ x ∷ drop n xs) on
 
 AreApart-same : {p q r s : Cuboid} → p ≡ r → q ≡ s → AreApart r s → AreApart p q
 AreApart-same {p} {q} {r} {s} e f h = subst (λ b. AreApart b q) (sym e) (subst (λ b. AreApart r b) (sym f) h)
@@ -172,17 +167,9 @@ module _ (boxes : List Standing) where
       → other ≡ get_or boxes found other → first < length (take found boxes) → HoldsAt (λ b. Clash b other) (take found boxes) first
       → All (λ b. AreClear b other) (take first (take found boxes)) → IsFirstOverlap boxes (record { first = first; second = found })
   IsFirstOverlap-at found first other h within at inside clash none = record {
-    earlier = take found boxes;
-    other = other;
-    after = drop (found + 1) boxes;
-    splits = split_here boxes found other within at;
-    second = sym (length-take-le found boxes (omega arith));
+    later = at_here boxes found other within at;
     clear = h.clear;
-    before = take first (take found boxes);
-    one = get_or (take found boxes) first other;
-    between = drop (first + 1) (take found boxes);
-    splits_earlier = split_here (take found boxes) first (get_or (take found boxes) first other) inside (get_or_default (take found boxes) first other _ inside);
-    first = sym (length-take-le first (take found boxes) (omega arith));
+    earlier = at_here (take found boxes) first (get_or (take found boxes) first other) inside (get_or_default (take found boxes) first other _ inside);
     clash = clash other;
     none_before = none;
   }

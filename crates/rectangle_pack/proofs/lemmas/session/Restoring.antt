@@ -3,7 +3,6 @@ use Rattle.rectangle_pack_sections.proofs.Std.{ℕ, ◌+◌, ◌<◌, ◌≤◌,
 use Rattle.rectangle_pack_sections.proofs.Std.{Option, Some, None, IsSome, MatchOption, All, Any, All-push, All-weaker, all_pairs_push, get_or, take_more, nat_lt, nat_tests, All-nil}
 use Rattle.rectangle_pack_sections.proofs.Std.{Ordering, IsTotalOrder, is_at, lookup}
 use Rattle.std.proofs.lemmas.List.Quantifiers.{Any-push}
-use Rattle.rectangle_pack_overlaps.proofs.lemmas.Piles.{split_here}
 use Rattle.rectangle_pack_covers.proofs.lemmas.Covers.{before_one, IsBinAnswer-fault}
 use Rattle.rectangle_pack_sections.proofs.lemmas.util.Lists.{All-middle}
 use Rattle.rectangle_pack_sections.proofs.Std.{Vec, cond, set_value, insert_entry, on_total, cases_Bool, inl, inr, Equal-is, append-nil, All-head, All-tail, map, filter, fun_ext, is_eq, length-append, Err, not}
@@ -14,21 +13,21 @@ use Rattle.rectangle_pack_sections.specs.Bins.{Bin, whole as all_of}
 use Rattle.rectangle_pack_sections.specs.Covering.{CoverBin}
 use Rattle.rectangle_pack_sections.specs.CutTrees.{IsFromCuts}
 use Rattle.rectangle_pack.specs.declared.session.command.Outstanding.{Outstanding}
-use Rattle.rectangle_pack.specs.Restoring.{AreRecorded, ComesAfterRecorded, IsWholeBin, ComesAfterWhole, IsRecordFault, IsBinFault, IsRestored, IsNoSession}
+use Rattle.rectangle_pack.specs.Restoring.{AreRecorded, IsWholeBin, IsRecordFault, IsBinFault, IsRestored, IsNoSession}
 use Rattle.rectangle_pack.specs.declared.session.restoring.RestoreError.{RestoreError}
 use Rattle.rectangle_pack.specs.declared.session.restoring.RestoreError.TheVariants.{NotRising, NotBelowNext, UnknownBin, WrongBin, OutOfMemory}
 use Rattle.rectangle_pack.specs.Session.{State, IsSession, boxes_of}
-use Rattle.rectangle_pack.specs.private.Restoring.{IsLast, boxes_at}
+use Rattle.rectangle_pack.specs.private.Restoring.{IsGreatest, boxes_at}
 
 pub not_above : {Id B : Type 0} (last : Option ℕ) (number : ℕ) (before : List (Outstanding Id B)) (b : Bool) → MatchOption last (b ≡ true) (λ n. b ≡ nat_lt n number) → b ≡ false
-    → IsLast last before → Any (λ r. number ≤ r.number) before
+    → IsGreatest last before → Any (λ r. number ≤ r.number) before
 not_above None number before b is under h = absurd cc
 not_above (Some n) number before b is under h =
     let most : number ≤ n = grind (arith, nat_tests, is, under) in
     (h.1.0, h.1.1, h.1.2, h.1.3, omega (arith, most, h.1.4))
 
 pub above_all : {Id B : Type 0} (last : Option ℕ) (number : ℕ) (before : List (Outstanding Id B)) (b : Bool) → MatchOption last (b ≡ true) (λ n. b ≡ nat_lt n number) → b ≡ true
-    → IsLast last before → All (λ r. r.number < number) before
+    → IsGreatest last before → All (λ r. r.number < number) before
 above_all {Id} {B} None number before b is above h = rw h (All-nil (λ (r : Outstanding Id B). r.number < number))
 above_all (Some n) number before b is above h =
     let less : n < number = grind (arith, nat_tests, is, above) in
@@ -37,18 +36,6 @@ above_all (Some n) number before b is above h =
 module _ {Id B : Type 0} (bin_cmp : B → B → Ordering) (bins : List (B × Bin)) (next : ℕ) (outstanding : List (Outstanding Id B)) where
   abbrev Numbered : Type 0
   Numbered = Outstanding Id B
-
-  -- the placement at a place
-  abbrev pub at_place : (i : ℕ) (one : Numbered) → i < length outstanding → one ≡ get_or outstanding i one → AreRecorded bin_cmp bins next (take i outstanding)
-      → ComesAfterRecorded bin_cmp bins next outstanding i
-  at_place i one within is recorded = record {
-    before = take i outstanding;
-    one = one;
-    after = drop (i + 1) outstanding;
-    splits = split_here outstanding i one within is;
-    place_is = sym (length-take-le i outstanding (omega arith));
-    recorded = recorded;
-  }
 
   module _ (i : ℕ) (one : Numbered) (within : i < length outstanding) (is : one ≡ get_or outstanding i one) where
     one_more : take (i + 1) outstanding ≡ take i outstanding ++ one ∷ []
@@ -62,8 +49,8 @@ module _ {Id B : Type 0} (bin_cmp : B → B → Ordering) (bins : List (B × Bin
       known = All-push (λ r. IsSome (lookup (is_at (bin_cmp r.bin)) bins)) (take i outstanding) one h.known known;
     })
 
-    pub IsLast-more : All (λ r. r.number < one.number) (take i outstanding) → IsLast (Some one.number) (take (i + 1) outstanding)
-    IsLast-more above = subst (IsLast (Some one.number)) (sym one_more) (
+    pub IsGreatest-more : All (λ r. r.number < one.number) (take i outstanding) → IsGreatest (Some one.number) (take (i + 1) outstanding)
+    IsGreatest-more above = subst (IsGreatest (Some one.number)) (sym one_more) (
       All-push (λ r. r.number ≤ one.number) (take i outstanding) one (All-weaker (λ r. r.number < one.number) (λ r. r.number ≤ one.number) (λ r m. omega (arith, m)) (take i outstanding) above) (omega arith),
       Any-push (λ r. one.number ≤ r.number) (take i outstanding) one (omega arith),
     )
@@ -134,13 +121,6 @@ module _ {Id B : Type 0} {cmp : B → B → Ordering} (o : IsTotalOrder cmp) (ou
     below = recorded.below;
   }
 
--- the bin at a place
-abbrev pub at_bin : {Id B : Type 0} (bin_cmp : B → B → Ordering) (bins : List (B × Bin)) (outstanding : List (Outstanding Id B)) (place : ℕ) (before : List (B × Bin))
-    (one : B × Bin) (after : List (B × Bin)) → bins ≡ before ++ one ∷ after → place ≡ length before → lookup (is_at (bin_cmp one.0)) bins ≡ Some one.1
-    → All (IsWholeBin bin_cmp bins outstanding) before → ComesAfterWhole bin_cmp bins outstanding place
-at_bin bin_cmp bins outstanding place before one after splits is found whole =
-    record { before = before; one = one; after = after; splits = splits; place_is = is; found = found; whole = whole }
-
 -- what stands before an element is shorter than all
 pub shorter : {X : Type 0} (all before : List X) (one : X) (after : List X) → all ≡ before ++ one ∷ after → length before < length all
 shorter all before one after is = rw is (omega (arith, length-append before (one ∷ after)))
@@ -167,17 +147,17 @@ module _ {Id B : Type 0} (bin_cmp : B → B → Ordering) (state : State Id B) w
   pub no_session-record : (error : RestoreError) → IsRecordFault bin_cmp state.bins state.next state.outstanding error → IsNoSession bin_cmp state error
   no_session-record (NotRising p) h = λ session.
       let at = h.0 in
-      let higher = h.1 in
+      let higher = h.2 in
       let rises = before_one (λ a b. a.number < b.number) state.outstanding at.before at.one at.after at.splits session.rising in
       let r = higher.1 in
       omega (arith, rises higher.0 r higher.2, higher.4, ap (λ (o : Outstanding Id B). o.number) higher.3)
   no_session-record (NotBelowNext p) h = λ session.
       let at = h.0 in
-      omega (arith, All-middle (λ r. r.number < state.next) state.outstanding at.before at.after at.one at.splits session.below, h.2)
+      omega (arith, All-middle (λ r. r.number < state.next) state.outstanding at.before at.after at.one at.splits session.below, h.3)
   no_session-record (UnknownBin p) h = λ session.
       let at = h.0 in
       let there = All-middle (λ r. IsSome (lookup (is_at (bin_cmp r.bin)) state.bins)) state.outstanding at.before at.after at.one at.splits session.known in
-      absurd (search (rules, there, h.3))
+      absurd (search (rules, there, h.4))
   no_session-record (WrongBin p f) h = absurd h
   no_session-record OutOfMemory h = absurd h
 
@@ -189,8 +169,8 @@ module _ {Id B : Type 0} (bin_cmp : B → B → Ordering) (state : State Id B) w
   no_session-bin (WrongBin p f) h = λ session.
       let at = h.0 in
       let bin = at.one.1 in
-      IsBinAnswer-fault bin.size (not bin.coalesced) (boxes_of bin_cmp state.outstanding at.one.0 bin) f h.1 (session.covered at.one.0 bin at.found)
-      (λ fresh. session.from_cuts at.one.0 bin at.found (not_true bin.coalesced fresh))
+      IsBinAnswer-fault bin.size (not bin.coalesced) (boxes_of bin_cmp state.outstanding at.one.0 bin) f h.3 (session.covered at.one.0 bin h.2)
+      (λ fresh. session.from_cuts at.one.0 bin h.2 (not_true bin.coalesced fresh))
     where
       not_true : (b : Bool) → not b ≡ true → b ≡ false
       not_true true is = absurd cc

@@ -10,14 +10,14 @@ plan_of-requires g c = record {
       (IsFilled-bin c.args.size c.args.boxes.now (rw c.all_of.ensures.whole at c.all_of.ensures.fits) c.requires);
 }
 
-pub returns-in-Some-clause-yes : goal.returns-in-Some-clause-yes
-returns-in-Some-clause-yes g c =
+pub returns-in-Some : goal.returns-in-Some
+returns-in-Some g c =
     let boxes = c.args.boxes.now in
     let answer = rw (c.all_of.ensures.whole, c.as_mut_slice.ensures.value, c.in_ok-parts.ensures, c.in-Some.is) at c.in_ok-plan_of.ensures in
     IsFromCuts-same (filter has_cells boxes) boxes (HaveSameBoxes-filter boxes) answer.from_cuts
 
-pub returns-clause-no : goal.returns-clause-no
-returns-clause-no g c =
+pub returns : goal.returns
+returns g c =
     let boxes = c.args.boxes.now in
     let answer = rw (c.all_of.ensures.whole, c.as_mut_slice.ensures.value, c.in_ok-parts.ensures, c.in-None.is) at c.in_ok-plan_of.ensures in
     λ from. answer (IsFromCuts-same boxes (filter has_cells boxes) (HaveSameBoxes-sym (filter has_cells boxes) boxes (HaveSameBoxes-filter boxes)) from)

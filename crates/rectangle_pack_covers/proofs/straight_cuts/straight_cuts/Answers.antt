@@ -8,4 +8,4 @@ cut_anew-requires-clause-cells g c = rw (c.as_mut_slice.ensures.value, c.in_ok-s
 
 pub cut_anew-requires-clause-inside : goal.cut_anew-requires-clause-inside
 cut_anew-requires-clause-inside g c = rw (c.all_of.ensures.whole, c.as_mut_slice.ensures.value, c.in_ok-standing.ensures)
-    (parts_inside c.args.size c.args.boxes.now (rw c.in_default.is at c.in_ok-fault.ensures).inside)
+    (parts_inside c.args.size c.args.boxes.now c.in_ok-check_sections.ensures.inside)

@@ -1,11 +1,11 @@
 use Rattle.rectangle_pack_sections.proofs.Std.{subst, sym}
 use Rattle.rectangle_pack_judge.specs.Judging.{IsVerdict}
-use Rattle.rectangle_pack_judge.proofs.lemmas.Verdicts.{verdict-together, verdict-alone}
+use Rattle.rectangle_pack_judge.proofs.lemmas.Verdicts.{verdict-if, verdict-alone}
 use Rattle.rectangle_pack_judge.proofs.judging.first_fault_among.Goals as goal
 
 pub returns-then-found-alone : goal.returns-then-found-alone
 returns-then-found-alone g c = record {
-  verdict = verdict-together c.args.case.now c.args.claims.now c.first_alone-alone.result c.first_alone-alone.ensures c.in_ok-found.found c.in_ok-found.ensures
+  verdict = verdict-if c.args.case.now c.args.claims.now c.first_alone-alone.result c.first_alone-alone.ensures c.in_ok-found.found c.in_ok-found.ensures
       c.index-claims-found.result c.together_fault.result c.if-found-alone.true c.index-claims-found.is c.together_fault.ensures;
 }
 

@@ -4,4 +4,4 @@ use Rattle.rectangle_pack_judge.specs.Judging.{IsFree, rank}
 use Rattle.rectangle_pack_judge.proofs.judging.together_fault.Given as goal
 
 abbrev pub invariant-loop-conflict : goal.invariant-loop-conflict
-invariant-loop-conflict l = (other : Conflict) → rank other < l.conflict-index → All (λ a. IsFree l.case other a l.claim) l.earlier
+invariant-loop-conflict g l = (other : Conflict) → rank other < l.conflict-index → All (λ a. IsFree l.case other a l.claim) l.earlier

@@ -2,10 +2,11 @@ use Rattle.rectangle_pack_sections.proofs.Std.{arith, ◌≡◌, ◌∷◌, [], 
 use Rattle.rectangle_pack_sections.specs.Bins.{Bin, bins_of}
 use Rattle.rectangle_pack_sections.proofs.lemmas.util.Lists.{All-middle}
 use Rattle.rectangle_pack.proofs.lemmas.session.Keeps.{Some-bins_of}
+use Rattle.rectangle_pack_overlaps.specs.Places.{At}
 use Rattle.rectangle_pack_covers.specs.Covers.{IsBinAnswer}
 use Rattle.rectangle_pack.specs.Restoring.{IsWholeBin}
 use Rattle.rectangle_pack.proofs.lemmas.session.PlacingBest.{bins_of-yielded, bins_of-split}
-use Rattle.rectangle_pack.proofs.lemmas.session.Restoring.{at_bin, shorter}
+use Rattle.rectangle_pack.proofs.lemmas.session.Restoring.{shorter}
 use Rattle.rectangle_pack.proofs.session.restoring.first_wrong_bin.Goals as goal
 
 pub returns-in-Some-2 : goal.returns-in-Some-2
@@ -21,12 +22,12 @@ returns-in-Some-2 g c =
     let many : length (bins_of all) ≡ length all = length-map all (λ e. (e.0, e.1.bin)) in
     let place : c.len.result - c.loop-id.left ≡ length (bins_of before) = omega (arith, many, c.len.ensures, c.loop-id.invariant.1) in
     let one : g.row.B.Denot × Bin = (c.in-Some.id.now, c.in-Some.bin.now.bin) in
-    let at = at_bin g.B.Ord.cmp (bins_of all) c.args.outstanding.now (c.len.result - c.loop-id.left) (bins_of before) one _ splits place found c.loop-id.invariant.0 in
+    let at : At (bins_of all) (c.len.result - c.loop-id.left) = record { before = bins_of before; one = one; after = _; splits = splits; place_is = place } in
     let bin = c.in-Some.bin.now.bin in
     let answer : IsBinAnswer bin.size (not bin.coalesced) (bin.sections ++ c.standing_at.result.now) (Some c.in-Some-2.fault) =
     rw c.in-Some-2.is at c.in_ok-fault.ensures in
     let standing = c.standing_at.ensures ∙ c.in_ok-piles.ensures c.in-Some.id.now in
-    (at, subst (λ bs. IsBinAnswer bin.size (not bin.coalesced) (bin.sections ++ bs) (Some c.in-Some-2.fault)) standing answer)
+    (at, c.loop-id.invariant.0, found, subst (λ bs. IsBinAnswer bin.size (not bin.coalesced) (bin.sections ++ bs) (Some c.in-Some-2.fault)) standing answer)
 
 pub loop-id-preserved : goal.loop-id-preserved
 loop-id-preserved g c =
