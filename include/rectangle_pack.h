@@ -1,9 +1,10 @@
 /* rectangle_pack: packs boxes into bins, in two and three dimensions, without overlaps. rectangle_pack_boxes packs a list
    of boxes and keeps nothing; rectangle_pack_collection packs boxes that are in several groups, groups that may not share a
    bin, and by a heuristic of the caller's choice. A session keeps its bins from call to call: boxes are packed into them and
-   released again, and it can be saved. rectangle_pack_check judges a packing, whoever made it. All calls are proved; what is
-   proved of them stands beside them, and as their contracts in crates/rectangle_pack_c/src (lib.rt, session.rt, placing.rt,
-   upkeep.rt, reading.rt, restoring.rt and judging.rt). C99 and C++.
+   released again, and it can be saved. rectangle_pack_check judges a packing, whoever made it, and rectangle_pack_straight_cuts
+   finds the cuts that leave its boxes. All calls are proved; what is proved of them stands beside them, and as their contracts
+   in crates/rectangle_pack_c/src (lib.rt, session.rt, placing.rt, upkeep.rt, reading.rt, restoring.rt, judging.rt and
+   cutting.rt). C99 and C++.
 
    Sizes and corners are counted in cells. In two dimensions each depth is 1 and each z is 0. */
 #ifndef RECTANGLE_PACK_H
@@ -76,7 +77,9 @@ enum {
     /* No straight cuts part the boxes that stand in the bin of the session. */
     RP_NOT_FROM_CUTS = 17,
     /* No session has these parts. */
-    RP_WRONG_PARTS = 18
+    RP_WRONG_PARTS = 18,
+    /* A box is outside the bin, or two share a cell. */
+    RP_WRONG_BOXES = 19
 };
 
 /* Packs all boxes into the bins; placements[i] is where boxes[i] stands.
@@ -517,7 +520,8 @@ typedef struct rp_wrong {
    - RP_DONE: the session has these parts, and all that is proved of every session holds of it. So no file, whoever wrote it,
      makes a session that gives a cell twice.
    - RP_WRONG_PARTS: what wrong says is so, and it is the first that is looked for; and no session has these parts.
-   Its time is about that of a sort of all placements and free sections. */
+   Its time is about that of a sort of all placements and free sections, but for boxes that were laid to defy it, which may take
+   the square. */
 uint32_t rectangle_pack_session_restore(rp_session *session, const rp_saved *saved, rp_wrong *wrong);
 
 /* The judge: whether boxes that stand somewhere are a packing, whoever put them there. */
@@ -584,6 +588,21 @@ typedef struct rp_fault {
 uint32_t rectangle_pack_check(const rp_bin *bins, size_t bin_count, const rp_entry *entries, size_t entry_count,
                               const rp_exclusion *exclusions, size_t exclusion_count, const rp_claim *claims, size_t claim_count,
                               rp_fault *fault);
+
+/* Straight cuts, each across the whole of its part, that part a bin into boxes that stand in it and what is free beside them,
+   whoever put the boxes there: the steps of the plan go to an array, as those of rectangle_pack_session_cut_plan, and how many
+   they are. Boxes without cells do not count. RP_DONE; RP_SHORT_ARRAY; RP_NO_PLAN where no such cuts leave the boxes whole;
+   RP_WRONG_BOXES, and then wrong says which box is outside, or which two share a cell, by RP_WRONG_OUTSIDE or
+   RP_WRONG_SHARED_CELL and their indices; or RP_OUT_OF_MEMORY. Nothing else is written but for the first two.
+
+   Proved, for all lists, wherever memory is refused:
+   - RP_DONE: the plan parts the bin into the boxes and into free sections, each cut at the first place of the first axis that
+     goes through none of them; the free sections are those to which rectangle_pack_session_recut parts what is free.
+   - RP_NO_PLAN: there are no such cuts, whatever is free.
+   - RP_WRONG_BOXES: what wrong says is so, and it is the first: boxes that are outside come before those that share a cell.
+   Only tested, and what the caller sees to, is as of rectangle_pack_check, of steps, count and wrong too. */
+uint32_t rectangle_pack_straight_cuts(const rp_bin *bin, const rp_section *boxes, size_t box_count, rp_cut_step *steps,
+                                      size_t length, size_t *count, rp_wrong *wrong);
 
 #ifdef __cplusplus
 }

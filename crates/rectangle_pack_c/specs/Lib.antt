@@ -9,4 +9,5 @@ pub mod Upkeep
 pub mod Placing
 pub mod Judging
 pub mod Restoring
+pub mod Cutting
 pub mod private

@@ -16,6 +16,7 @@ ghost use Rattle.rectangle_pack_c.specs.Sessions.{PacksCollection};
 ghost use Rattle.rectangle_pack_c.specs.private.Written.{AreWritten, NewAreWritten};
 
 mod collection;
+mod cutting;
 mod handle;
 mod judging;
 mod placing;
@@ -110,6 +111,8 @@ pub const RP_UNKNOWN_AXIS: u32 = 16;
 pub const RP_NOT_FROM_CUTS: u32 = 17;
 /// No session has these parts.
 pub const RP_WRONG_PARTS: u32 = 18;
+/// A box is outside the bin, or two share a cell.
+pub const RP_WRONG_BOXES: u32 = 19;
 
 // There are fewer bins and boxes than this, so that each index and their count is of 32 bits.
 const LIMIT: usize = 0x1_0000_0000;

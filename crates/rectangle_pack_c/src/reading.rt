@@ -134,7 +134,7 @@ fn axis_number(axis: Axis) -> u32
 
 // Writes how many entries a list has, and these to the beginning of an array, where it is long
 // enough.
-fn tell<S, T: Written<S>>(there: &[S], array: &mut [T], count: &mut usize) -> u32
+pub(crate) fn tell<S, T: Written<S>>(there: &[S], array: &mut [T], count: &mut usize) -> u32
     ensures { Tells (map T.written there.now) result array.old array.new count.new }
 {
     *count = there.len();

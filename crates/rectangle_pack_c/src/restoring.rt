@@ -277,8 +277,8 @@ fn insert(bins: &mut BTreeMap<u32, TargetBin>, id: u32, made: TargetBin) -> Resu
     Ok(())
 }
 
-// The free sections of a bin.
-fn sections_of(alloc: Global, saved: &[RpSection]) -> Result<Vec<BinSection>, AllocError>
+// The boxes that are saved so.
+pub(crate) fn sections_of(alloc: Global, saved: &[RpSection]) -> Result<Vec<BinSection>, AllocError>
     ensures { IfOk result (λ sections. sections.items ≡ map box_of saved.now) }
 {
     let mut sections = Vec::new(alloc);
@@ -288,7 +288,7 @@ fn sections_of(alloc: Global, saved: &[RpSection]) -> Result<Vec<BinSection>, Al
     Ok(sections)
 }
 
-// The free section that is saved so.
+// The box that is saved so.
 fn section_of(saved: &RpSection) -> BinSection
     ensures { result ≡ box_of saved.now }
 {
@@ -348,7 +348,7 @@ fn wrong_at(kind: u32, first: usize) -> RpWrong
 }
 
 // What is written of a fault of a bin's free sections; nothing of want of memory.
-fn wrong_in_sections(bin: usize, error: SectionsError) -> Option<RpWrong>
+pub(crate) fn wrong_in_sections(bin: usize, error: SectionsError) -> Option<RpWrong>
     ensures { result ≡ wrong_in_sections bin error }
 {
     let fault = match error {

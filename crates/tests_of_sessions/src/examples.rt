@@ -3,8 +3,8 @@
 
 use rectangle_pack::{
     Axis, BinSection, CutStep, Group, GroupedRectsToPlace, Heuristic, PackedLocation, RectToInsert,
-    RestoreError, Session, SessionError, Step, TargetBin, WidthHeightDepth, contains_smallest_box,
-    volume_heuristic,
+    RestoreError, Session, SessionError, Step, TargetBin, WidthHeightDepth, bin_of_free_sections,
+    contains_smallest_box, straight_cuts, volume_heuristic,
 };
 use std::alloc::{AllocError, Global};
 use std::process::Abort;
@@ -287,5 +287,35 @@ fn session_is_restored(rt: HostRuntime) -> Result<(), Fail> {
     parts.next = 0;
     let wrong = Session::restore(alloc, parts).err();
     assert!(rt; wrong == Some(RestoreError::NotBelowNext { placement: 0 }));
+    Ok(())
+}
+
+#[test]
+fn bin_is_made_of_free_sections(rt: HostRuntime) -> Result<(), Fail> {
+    let alloc = rt.alloc();
+    let size = WidthHeightDepth::new(10, 10, 1);
+    let right = BinSection::new(4, 0, 0, WidthHeightDepth::new(6, 10, 1));
+    let free = vec![in alloc; right]?;
+    let bin = bin_of_free_sections(alloc, size, free, false)?;
+    assert_eq!(rt; bin.available_bin_sections().as_slice(), [right].as_slice());
+    Ok(())
+}
+
+#[test]
+fn cuts_part_a_bin_round_a_box(rt: HostRuntime) -> Result<(), Fail> {
+    let alloc = rt.alloc();
+    let size = WidthHeightDepth::new(10, 10, 1);
+    let left = BinSection::new(0, 0, 0, WidthHeightDepth::new(4, 10, 1));
+    let cuts = straight_cuts(alloc, size, &[left])?.ok_or("no such cuts")?;
+    let right = BinSection::new(4, 0, 0, WidthHeightDepth::new(6, 10, 1));
+    assert_eq!(rt; cuts.free.as_slice(), [right].as_slice());
+    let cut = CutStep::Cut {
+        axis: Axis::X,
+        place: 4,
+    };
+    assert_eq!(rt;
+        cuts.steps.as_slice(),
+        [cut, CutStep::Leaf, CutStep::Leaf].as_slice()
+    );
     Ok(())
 }

@@ -3,7 +3,7 @@
 use super::{TestSession, plenty};
 use rectangle_pack::{
     BinFault, Outstanding, PackedLocation, RectToInsert, RestoreError, SectionsError, Session,
-    SessionParts, TargetBin, WidthHeightDepth, bin_of_free_sections,
+    SessionParts, TargetBin, WidthHeightDepth, bin_of_free_sections, was_coalesced,
 };
 use std::collections::BTreeMap;
 use std::test::Fail;
@@ -201,17 +201,18 @@ fn sections_from_no_cuts(rt: HostRuntime) -> Result<(), Fail> {
 #[test]
 fn free_sections_of_no_bin(rt: HostRuntime) -> Result<(), Fail> {
     let alloc = plenty(&rt, rt.alloc());
-    let outside = SectionsError::Wrong(BinFault::Outside { index: 1 });
+    let outside = SectionsError::Outside { index: 1 };
     assert!(rt; free_bin(alloc, &[FREE, [4, 5, 0, 7, 1, 1]], false).err() == Some(outside));
-    let shares = SectionsError::Wrong(BinFault::SharesCell {
+    let shares = SectionsError::SharesCell {
         first: 1,
         second: 2,
-    });
+    };
     let three = [BOX, [5, 0, 0, 1, 1, 1], FREE];
     assert!(rt; free_bin(alloc, &three, false).err() == Some(shares));
     let few = free_bin(alloc, &[[9, 9, 0, 1, 1, 1], [0, 0, 0, 1, 1, 1]], true)?;
     assert!(rt; has_list(&few, &[[9, 9, 0, 1, 1, 1], [0, 0, 0, 1, 1, 1]]));
     assert!(rt; few.max_size() == size());
+    assert!(rt; was_coalesced(&few));
     Ok(())
 }
 
