@@ -7,6 +7,7 @@ use std::alloc::Global;
 use std::test::Fail;
 
 mod collection;
+mod cutting;
 mod judging;
 mod large;
 mod memory;

@@ -20,7 +20,7 @@ use crate::{RP_DONE, RP_UNKNOWN_BIN, RP_WRONG_PARTS, RpBin};
 use std::alloc::Global;
 use std::test::Fail;
 
-const NOTHING: RpWrong = RpWrong {
+pub(super) const NOTHING: RpWrong = RpWrong {
     kind: 9,
     bin: 9,
     first: 9,
@@ -56,7 +56,7 @@ const PLACED: RpStanding = RpStanding {
 };
 
 // A section that is one cell deep.
-fn section_at(x: u32, y: u32, width: u32, height: u32) -> RpSection {
+pub(super) fn section_at(x: u32, y: u32, width: u32, height: u32) -> RpSection {
     RpSection {
         x,
         y,
