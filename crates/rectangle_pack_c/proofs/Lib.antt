@@ -12,3 +12,4 @@ pub mod UpkeepLemmas
 pub mod PlacingLemmas
 pub mod JudgingLemmas
 pub mod SavedLemmas
+pub mod PutLemmas

@@ -1,6 +1,6 @@
 use Rattle.rectangle_pack_c.proofs.Std.{arith, get_or, get_or_default, take_all, ◌-◌}
 use Rattle.rectangle_pack_c.specs.declared.restoring.RpSavedBin.{RpSavedBin}
-use Rattle.rectangle_pack_c.proofs.SavedLemmas.{first_fall, rise_more}
+use Rattle.rectangle_pack_c.proofs.PutLemmas.{first_fall, rise_more}
 use Rattle.rectangle_pack_c.proofs.restoring.first_fallen.Goals as goal
 
 abbrev none : RpSavedBin

@@ -1,7 +1,7 @@
 use Rattle.rectangle_pack_c.proofs.Std.{get_or, get_or_default, err_from_is_err_and}
 use Rattle.rectangle_pack.specs.Bins.{bins_of}
 use Rattle.rectangle_pack_c.specs.declared.restoring.RpSavedBin.{RpSavedBin}
-use Rattle.rectangle_pack_c.proofs.SavedLemmas.{put_more, bin_fault}
+use Rattle.rectangle_pack_c.proofs.PutLemmas.{put_more, bin_fault}
 use Rattle.rectangle_pack_c.proofs.restoring.put_bins.Goals as goal
 
 abbrev none : RpSavedBin

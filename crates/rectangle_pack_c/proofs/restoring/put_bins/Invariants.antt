@@ -1,5 +1,5 @@
 use Rattle.rectangle_pack.specs.Bins.{bins_of}
-use Rattle.rectangle_pack_c.proofs.SavedLemmas.{ArePutBefore}
+use Rattle.rectangle_pack_c.proofs.PutLemmas.{ArePutBefore}
 use Rattle.rectangle_pack_c.proofs.restoring.put_bins.Given as goal
 
 abbrev pub invariant-loop-i : goal.invariant-loop-i
