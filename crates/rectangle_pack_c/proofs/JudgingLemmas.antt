@@ -1,8 +1,7 @@
 -- What is asked of the judge, and what it answers.
-use Rattle.rectangle_pack_sections.proofs.Std.{◌≡◌, ℕ, ◌+◌, ◌<◌, ◌^◌, ◌++◌, ◌∙◌, List, [], ◌∷◌, arith, ap, sym, refl, map, length, take, get_or, take_more, length-take-le, map_push, length-map, length-append, Option, Some, None}
+use Rattle.rectangle_pack_sections.proofs.Std.{◌≡◌, ℕ, ◌+◌, ◌<◌, ◌^◌, ◌++◌, ◌∙◌, List, [], ◌∷◌, arith, ap, map, length, take, get_or, take_more, length-take-le, map_push, length-map, Option, Some, None}
 use Rattle.std.specs.List.{enumerate_from}
 use Rattle.std.proofs.lemmas.List.FromFn.{length-enumerate_from}
-use Rattle.rectangle_pack.specs.declared.judge.Claim.{Claim}
 use Rattle.rectangle_pack.specs.declared.judge.Fault.{Fault}
 use Rattle.rectangle_pack.specs.declared.judge.Fault.TheVariants.{Alone, Together, NotPlaced}
 use Rattle.rectangle_pack_c.specs.declared.RpBin.{RpBin}

@@ -1,41 +1,21 @@
 -- Saved bins that are put into a map one after another, and ids that rise.
-use Rattle.rectangle_pack_c.proofs.Std.{◌≡◌, ◌≢◌, ℕ, zero, suc, ◌+◌, ◌<◌, ◌≤◌, List, [], ◌∷◌, ◌++◌, length, get_or, take, drop, refl, ap, sym, ◌∙◌, subst, arith, nat_cmp, Less, false}
-use Rattle.rectangle_pack_c.proofs.Std.{Some, All, AllZip, map, keys_of, lookup, is_at, insert_entry, IsStrictlySortedBy, length-map, length-take-le, length-append, append_assoc, map-append}
-use Rattle.rectangle_pack_c.proofs.Std.{get_or_default, take_more, nat_cmp_is, All-head, All-tail, ◌-◌, below_more}
-use Rattle.std.proofs.Common.{Err, add-one, length-drop, drop-cons}
-use Rattle.std.specs.List.{flat_map, sum_by}
-use Rattle.std.proofs.lemmas.Cmp.{nat_cmp_total}
-use Rattle.std.proofs.lemmas.List.{get_or-map}
+use Rattle.rectangle_pack_c.proofs.Std.{◌≡◌, ℕ, zero, suc, ◌+◌, ◌<◌, ◌≤◌, List, [], ◌∷◌, ◌++◌, length, get_or, take, drop, refl, ap, sym, ◌∙◌, arith, nat_cmp}
+use Rattle.rectangle_pack_c.proofs.Std.{All, map, keys_of, insert_entry, length-map, length-take-le, append_assoc, map-append}
+use Rattle.rectangle_pack_c.proofs.Std.{get_or_default, take_more, All-head, All-tail, ◌-◌, below_more}
+use Rattle.std.proofs.Common.{add-one, length-drop, drop-cons}
+use Rattle.std.specs.List.{sum_by}
 use Rattle.std.proofs.lemmas.List.Sums.{sum_by-cons}
-use Rattle.std.proofs.lemmas.Map.Keys.{sorted_from_all_adjacent, sorted_tail, below_from_sorted}
-use Rattle.std.proofs.lemmas.Map.Views.{All-after_first}
 use Rattle.rectangle_pack_sections.proofs.Std.{All-map, All-push, all_pairs_push, get_or-take}
-use Rattle.rectangle_pack_sections.proofs.lemmas.util.Lists.{All-middle}
-use Rattle.rectangle_pack.specs.declared.SectionsError.{SectionsError}
-use Rattle.rectangle_pack.specs.declared.SectionsError.TheVariants.{Outside as NotInside, SharesCell as Share, OutOfMemory as NoMemory}
-use Rattle.rectangle_pack.specs.Covers.{IsSectionsAnswer, in_one_bin}
-use Rattle.rectangle_pack_covers.proofs.lemmas.Covers.{outside-no_cover, sharing-no_cover}
-use Rattle.rectangle_pack.specs.declared.session.command.Outstanding.{Outstanding}
-use Rattle.rectangle_pack.specs.declared.session.restoring.RestoreError.{RestoreError}
 use Rattle.rectangle_pack.specs.declared.session.restoring.RestoreError.TheVariants.{NotRising, NotBelowNext, UnknownBin, WrongBin, OutOfMemory}
 use Rattle.rectangle_pack.specs.Bins.{Bin}
-use Rattle.rectangle_pack.specs.Boxes.{Size, Cuboid}
-use Rattle.rectangle_pack.specs.Covering.{CoverBin}
-use Rattle.rectangle_pack.specs.Restoring.{IsRestored}
-use Rattle.rectangle_pack.specs.Session.{State, IsSession, outstanding_in}
-use Rattle.rectangle_pack.proofs.lemmas.session.Restoring.{no_session-record, no_session-bin}
 use Rattle.rectangle_pack_c.specs.declared.reading.RpSection.{RpSection}
-use Rattle.rectangle_pack_c.specs.declared.reading.RpStanding.{RpStanding}
 use Rattle.rectangle_pack_c.specs.declared.restoring.RpSaved.{RpSaved}
 use Rattle.rectangle_pack_c.specs.declared.restoring.RpSavedBin.{RpSavedBin}
-use Rattle.rectangle_pack_c.specs.declared.restoring.RpWrong.{RpWrong}
 use Rattle.rectangle_pack_c.specs.declared.restoring.SavedError.{SavedError}
 use Rattle.rectangle_pack_c.specs.declared.restoring.SavedError.TheVariants.{Counts, Ids, Sections, Parts}
-use Rattle.rectangle_pack_c.specs.Reading.{section_of, standing_of}
-use Rattle.rectangle_pack_c.specs.Restoring.{IsSavedBin, HasParts, IsSavedSession, AreCounted, IdsRise, IsFirstFallen, HasSound, IsSavedFault, wrong_in_sections, wrong_written}
-use Rattle.rectangle_pack_c.specs.Upkeep.{box_of}
-use Rattle.rectangle_pack_c.specs.private.Saved.{AreBinsSaved, IsBinPut, IsFaultOfBin, bin_saved, bins_saved, outstanding_of, state_saved}
-use Rattle.rectangle_pack_c.proofs.OrderLemmas.{nat_greater, nat_same, nat_other}
+use Rattle.rectangle_pack_c.specs.Restoring.{AreCounted, IdsRise, IsFirstFallen, HasSound, IsSavedFault}
+use Rattle.rectangle_pack_c.specs.private.Saved.{IsBinPut, IsFaultOfBin, bin_saved, bins_saved, state_saved}
+use Rattle.rectangle_pack_c.proofs.OrderLemmas.{nat_greater}
 use Rattle.rectangle_pack_c.proofs.SavedLemmas.{count_of, id_of, whole_again, has_parts}
 
 -- a key above all others stands last

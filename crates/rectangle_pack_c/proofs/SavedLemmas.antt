@@ -1,15 +1,14 @@
 -- Saved parts: the state that has them, and why no session has wrong ones.
-use Rattle.rectangle_pack_c.proofs.Std.{◌≡◌, ◌≢◌, ℕ, zero, suc, ◌+◌, ◌<◌, ◌≤◌, List, [], ◌∷◌, ◌++◌, length, get_or, take, drop, refl, ap, sym, ◌∙◌, subst, arith, nat_cmp, Less, false}
-use Rattle.rectangle_pack_c.proofs.Std.{Some, All, AllZip, map, keys_of, lookup, is_at, insert_entry, IsStrictlySortedBy, length-map, length-take-le, length-append, append_assoc, map-append}
-use Rattle.rectangle_pack_c.proofs.Std.{get_or_default, take_more, nat_cmp_is, All-head, All-tail, ◌-◌, below_more}
-use Rattle.std.proofs.Common.{Err, add-one, length-drop, drop-cons}
+use Rattle.rectangle_pack_c.proofs.Std.{◌≡◌, ◌≢◌, ℕ, zero, suc, ◌+◌, ◌<◌, ◌≤◌, List, [], ◌∷◌, ◌++◌, length, take, drop, refl, ap, sym, ◌∙◌, subst, arith, nat_cmp, Less}
+use Rattle.rectangle_pack_c.proofs.Std.{Some, AllZip, map, keys_of, lookup, is_at, IsStrictlySortedBy, length-map, length-take-le, length-append, append_assoc, map-append}
+use Rattle.rectangle_pack_c.proofs.Std.{nat_cmp_is}
+use Rattle.std.proofs.Common.{Err, length-drop}
 use Rattle.std.specs.List.{flat_map, sum_by}
 use Rattle.std.proofs.lemmas.Cmp.{nat_cmp_total}
 use Rattle.std.proofs.lemmas.List.{get_or-map}
 use Rattle.std.proofs.lemmas.List.Sums.{sum_by-cons}
 use Rattle.std.proofs.lemmas.Map.Keys.{sorted_from_all_adjacent, sorted_tail, below_from_sorted}
 use Rattle.std.proofs.lemmas.Map.Views.{All-after_first}
-use Rattle.rectangle_pack_sections.proofs.Std.{All-map, All-push, all_pairs_push, get_or-take}
 use Rattle.rectangle_pack_sections.proofs.lemmas.util.Lists.{All-middle}
 use Rattle.rectangle_pack.specs.declared.SectionsError.{SectionsError}
 use Rattle.rectangle_pack.specs.declared.SectionsError.TheVariants.{Outside as NotInside, SharesCell as Share, OutOfMemory as NoMemory}
@@ -32,10 +31,10 @@ use Rattle.rectangle_pack_c.specs.declared.restoring.RpWrong.{RpWrong}
 use Rattle.rectangle_pack_c.specs.declared.restoring.SavedError.{SavedError}
 use Rattle.rectangle_pack_c.specs.declared.restoring.SavedError.TheVariants.{Counts, Ids, Sections, Parts}
 use Rattle.rectangle_pack_c.specs.Reading.{section_of, standing_of}
-use Rattle.rectangle_pack_c.specs.Restoring.{IsSavedBin, HasParts, IsSavedSession, AreCounted, IdsRise, IsFirstFallen, HasSound, IsSavedFault, wrong_in_sections, wrong_written}
+use Rattle.rectangle_pack_c.specs.Restoring.{IsSavedBin, HasParts, IsSavedSession, AreCounted, IdsRise, IsSavedFault, wrong_in_sections, wrong_written}
 use Rattle.rectangle_pack_c.specs.Upkeep.{box_of}
-use Rattle.rectangle_pack_c.specs.private.Saved.{AreBinsSaved, IsBinPut, IsFaultOfBin, bin_saved, bins_saved, outstanding_of, state_saved}
-use Rattle.rectangle_pack_c.proofs.OrderLemmas.{nat_greater, nat_same, nat_other}
+use Rattle.rectangle_pack_c.specs.private.Saved.{AreBinsSaved, bin_saved, bins_saved, outstanding_of, state_saved}
+use Rattle.rectangle_pack_c.proofs.OrderLemmas.{nat_same, nat_other}
 
 -- what is read of what was written is as before, and the other way round
 boxes_again : (boxes : List Cuboid) → map box_of (map section_of boxes) ≡ boxes

@@ -12,9 +12,8 @@ use Rattle.rectangle_pack.specs.declared.pack.Placement.{Placement}
 use Rattle.rectangle_pack.specs.declared.session.command.Outstanding.{Outstanding}
 use Rattle.rectangle_pack.specs.declared.session.command.Packed.{Packed as Numbers}
 use Rattle.rectangle_pack.specs.declared.session.command.Reply.{Reply}
-use Rattle.rectangle_pack.specs.declared.session.command.Reply.TheVariants.{Done, Packed, Refused}
+use Rattle.rectangle_pack.specs.declared.session.command.Reply.TheVariants.{Packed, Refused}
 use Rattle.rectangle_pack.specs.declared.session.command.SessionError.{SessionError}
-use Rattle.rectangle_pack.specs.declared.session.command.SessionError.TheVariants.{DuplicateBin, UnknownBin, UnknownPlacement, NumbersUsedUp, NotEnoughBinSpace}
 use Rattle.rectangle_pack.specs.declared.session.command.SessionError.TheVariants.{OutOfMemory}
 use Rattle.rectangle_pack.specs.Best.{named_rules}
 use Rattle.rectangle_pack.specs.Groups.{Collection}

@@ -1,5 +1,5 @@
 -- A box that is placed where it fits best, in a session by its handle.
-use Rattle.std.specs.Prelude.{◌≡◌, ℕ, List, ◌++◌, [], ◌∷◌, Option, Ok, Err}
+use Rattle.std.specs.Prelude.{◌≡◌, ℕ, ◌++◌, [], ◌∷◌, Option, Ok, Err}
 use Rattle.std.specs.Ordering.{nat_cmp}
 use Rattle.rectangle_pack_sections.specs.declared.box_size_heuristics.named.Heuristic.{Heuristic}
 use Rattle.rectangle_pack.specs.declared.session.command.Reply.{Reply}

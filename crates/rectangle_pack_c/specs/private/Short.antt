@@ -1,5 +1,5 @@
 -- Faults whose places fit into 32 bits.
-use Rattle.std.specs.Prelude.{ℕ, ⊤, ◌<◌, ◌^◌, Option, Some, None}
+use Rattle.std.specs.Prelude.{⊤, ◌<◌, ◌^◌, Option, Some, None}
 use Rattle.rectangle_pack.specs.declared.judge.Fault.{Fault}
 use Rattle.rectangle_pack.specs.declared.judge.Fault.TheVariants.{Alone, Together, NotPlaced}
 

@@ -1,4 +1,4 @@
-use Rattle.rectangle_pack_c.proofs.Std.{◌<◌, ◌≤◌, ℕ, arith, lit<}
+use Rattle.rectangle_pack_c.proofs.Std.{arith}
 use Rattle.rectangle_pack.specs.Session.{reply_of}
 use Rattle.rectangle_pack_c.proofs.SessionLemmas.{changed_so}
 use Rattle.rectangle_pack_c.proofs.UpkeepLemmas.{axes_are_three}
