@@ -1,6 +1,7 @@
-/* A target for libFuzzer: from bytes it draws calls, of all kinds that the header has, to several sessions and to none, and parts
-   of which sessions are to be made, and now and then has a request for memory refused. Each call is held against the account of its session and against the packing rule,
-   as the harnesses do it. tools/fuzz_c.sh builds and runs it. */
+/* A target for libFuzzer: from bytes it draws calls, of all kinds that the header has, to several sessions and to none, parts of
+   which sessions are to be made, and boxes of which straight cuts are asked, and now and then has a request for memory refused. Each
+   call is held against the account of its session and against the packing rule, as the harnesses do it. tools/fuzz_c.sh builds and
+   runs it. */
 #include <limits.h>
 
 #include "one_shot.h"
@@ -10,11 +11,12 @@
 #include "session_commands.h"
 #include "session_draws.h"
 #include "session_restoring.h"
+#include "straight_cuts.h"
 
 enum { SESSIONS = 3, STEPS_OF_INPUT = 60 };
 
 /* What is done in a step: a command of a session, or one of these. */
-enum step { PLAN = KINDS, PACK_ONCE, FREE, AGAIN, RESTORE };
+enum step { PLAN = KINDS, PACK_ONCE, FREE, AGAIN, RESTORE, CUT };
 
 /* A session, and what is known of it. Where it is not open, its handle is as RP_NO_SESSION makes it. */
 typedef struct known_session {
@@ -104,7 +106,7 @@ static void take_step(uint32_t depth)
 {
     static const int steps[] = {ADD_BIN, PACK, PACK_COLLECTION, RELEASE, COALESCE, COALESCE_ALL, PLAN, PACK_ONCE, FREE,
                                 CLEAR_BIN, REMOVE_BIN, GROW_BIN, PLACE_AT, PLACE_BEST, PLACE_ANYWHERE, RELEASE_ALL, RECUT,
-                                AGAIN, RESTORE};
+                                AGAIN, RESTORE, CUT};
     int what = steps[within(0, sizeof steps / sizeof *steps - 1)];
     known_session *it = &known[within(0, SESSIONS - 1)];
     long first, last;
@@ -114,8 +116,11 @@ static void take_step(uint32_t depth)
         return;
     }
     refuse_requests(first, last);
-    if (what == RESTORE) {
-        restore_drawn();
+    if (what == RESTORE || what == CUT) {
+        if (what == RESTORE)
+            restore_drawn();
+        else
+            cut_drawn();
         refuse_nothing();
         return;
     }

@@ -4,8 +4,9 @@
    each cell is in exactly one free section or outstanding box of its bin, and lists, sums and cutting plans are those of the
    account. In the middle of its commands a session is saved, and made again of its parts. Then it runs the same commands with each
    request for memory refused in turn, alone and with all after it: a call that wants memory leaves the session as it was and is
-   made again, so that in the end all answers are the same. At last it makes sessions of parts that are drawn, of which a judge of
-   its own says what is wrong. Link it with -Wl,--wrap=malloc,--wrap=realloc,--wrap=free. */
+   made again, so that in the end all answers are the same. Then it makes sessions of parts that are drawn, of which a judge of
+   its own says what is wrong. At last it asks how straight cuts part bins into boxes that are drawn. Link it with
+   -Wl,--wrap=malloc,--wrap=realloc,--wrap=free. */
 #include <limits.h>
 #include <stdio.h>
 #include <string.h>
@@ -15,6 +16,7 @@
 #include "session_commands.h"
 #include "session_draws.h"
 #include "session_restoring.h"
+#include "straight_cuts_cases.h"
 
 enum { SCRIPTS = 50, STATUSES = RP_NOT_FROM_CUTS + 1, DRAWN_PARTS = 20000, REFUSED_PARTS = 100 };
 
@@ -336,5 +338,8 @@ int main(void)
            short_arrays, no_plans, plans_wanting, taken_up);
     printf("restoring: %ld sessions made of parts, %ld parts wrong; memory was wanted %ld times\n", restored, refusals_of_parts,
            wanted_again);
+    wanted = cut_many();
+    printf("cutting: boxes were parted %ld times, from no cuts %ld times, outside %ld times, in one cell %ld times; memory was refused "
+           "%ld times\n", parted, from_no_cuts, found_outside, found_sharing, wanted);
     return 0;
 }
