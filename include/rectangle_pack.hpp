@@ -49,6 +49,7 @@ enum class Status : std::uint32_t {
     unknown_axis = RP_UNKNOWN_AXIS,
     not_from_cuts = RP_NOT_FROM_CUTS,
     wrong_parts = RP_WRONG_PARTS,
+    wrong_boxes = RP_WRONG_BOXES,
 };
 
 /// What a status means.
@@ -93,6 +94,8 @@ inline const char *text(Status status) noexcept
         return "no straight cuts part the boxes that stand in the bin";
     case Status::wrong_parts:
         return "no session has these parts";
+    case Status::wrong_boxes:
+        return "a box is outside the bin, or two share a cell";
     }
     return "a status that this header does not know";
 }
@@ -243,6 +246,19 @@ private:
     rp_wrong wrong_;
 };
 
+/// A box is outside the bin, or two share a cell: wrong() says which, by RP_WRONG_OUTSIDE and the index first, or by
+/// RP_WRONG_SHARED_CELL and the indices first and second.
+class WrongBoxes : public Error {
+public:
+    explicit WrongBoxes(const rp_wrong &wrong) noexcept : Error(Status::wrong_boxes), wrong_(wrong) {}
+
+    /// What is wrong, and with which boxes.
+    const rp_wrong &wrong() const noexcept { return wrong_; }
+
+private:
+    rp_wrong wrong_;
+};
+
 /// The axis that a straight cut is at right angles to, or leaf for a part that is not cut; the axis on which a bin grows.
 enum class Axis : std::uint32_t { x = 0, y = 1, z = 2, leaf = RP_LEAF };
 
@@ -378,6 +394,19 @@ template <class T, class Call, class Of> auto read(std::size_t room, Call call, 
     return list;
 }
 
+/// The plan that a call writes, or nothing where there is none. A whole plan is made for each call, so the array has at first room
+/// for most plans.
+template <class Call> std::optional<std::vector<CutStep>> plan(std::size_t room, Call call)
+{
+    try {
+        return read<rp_cut_step>(room, call, [](const rp_cut_step &it) { return CutStep{Axis{it.axis}, it.place}; });
+    } catch (const Error &error) {
+        if (error.status() == Status::no_plan)
+            return std::nullopt;
+        throw;
+    }
+}
+
 inline Outstanding outstanding(const rp_outstanding &it) noexcept
 {
     const rp_placement &at = it.placement;
@@ -416,6 +445,22 @@ inline std::optional<Fault> check(View<Bin> bins, View<Entry> entries, View<Clai
     if (fault.kind == RP_NO_FAULT)
         return std::nullopt;
     return Fault{FaultKind{fault.kind}, fault.first, fault.second};
+}
+
+/// The straight cuts, each across a whole part, that part a bin into boxes that stand in it and what is free beside them, whoever
+/// put them there; nothing where no straight cuts leave the boxes whole. Boxes without cells do not count. Throws WrongBoxes where
+/// a box is outside the bin, or two share a cell.
+inline std::optional<std::vector<CutStep>> straight_cuts(const Bin &bin, View<Section> boxes)
+{
+    const auto call = [&bin, &boxes](auto... to) {
+        rp_wrong wrong = {};
+        const std::uint32_t status = ::rectangle_pack_straight_cuts(&bin, boxes.data(), boxes.size(), to..., &wrong);
+        if (status == RP_WRONG_BOXES)
+            throw WrongBoxes(wrong);
+        return status;
+    };
+    // For each box there are seldom more than three free sections, so four leaves.
+    return detail::plan(8 * (boxes.size() + 1), call);
 }
 
 /// Bins that stay, and boxes that come and go. It moves and does not copy. It may go from thread to thread, but takes one call
@@ -593,16 +638,7 @@ public:
     {
         const Stats has = stats(id);
         const auto call = [this, id](auto... to) { return ::rectangle_pack_session_cut_plan(at(), number(id), to...); };
-        try {
-            // A whole plan is made for each call, so the first one has room for most plans.
-            return detail::read<rp_cut_step>(2 * (has.free_sections + has.placements), call, [](const rp_cut_step &it) {
-                return CutStep{Axis{it.axis}, it.place};
-            });
-        } catch (const Error &error) {
-            if (error.status() == Status::no_plan)
-                return std::nullopt;
-            throw;
-        }
+        return detail::plan(2 * (has.free_sections + has.placements), call);
     }
 
     /// Whether a call that joins sections was done for the bin since it was added or last cleared, also if it joined nothing.

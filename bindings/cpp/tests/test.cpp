@@ -76,7 +76,7 @@ static bool is_at(const rp::Outstanding &it, std::uint64_t number, std::uint32_t
 
 static void test_texts()
 {
-    for (std::uint32_t one = 0; one <= RP_UNKNOWN_AXIS; one++) {
+    for (std::uint32_t one = 0; one <= RP_WRONG_BOXES; one++) {
         for (std::uint32_t other = 0; other < one; other++)
             check(std::strcmp(rp::text(Status{one}), rp::text(Status{other})) != 0, "two statuses have one text");
         check(std::strcmp(rp::text(Status{one}), rp::text(Status{99})) != 0, "a status has no text");
@@ -348,6 +348,8 @@ static void test_refused_memory()
     memory([&] { rp::pack(bins, rp::Collection{boxes}); }, "a collection is packed without memory");
     const rp::Claim claims[] = {{0, 0, {0, 0, 0, 1, 1, 1}}};
     memory([&] { rp::check(bins, {}, claims); }, "a packing is judged without memory");
+    const rp::Section standing[] = {{0, 0, 0, 4, 10, 1}};
+    memory([&] { rp::straight_cuts(bins[0], standing); }, "cuts are found without memory");
     const rp::Parts parts = session.parts();
     memory([&] { rp::Session::restore(parts); }, "a session is restored of nothing");
     memory([&] { session.add_bin(BinId{1}, rp::bin(1, 1)); }, "a bin is made of nothing");
@@ -395,6 +397,73 @@ static void test_judge()
     check(with({1, 0, {3, 0, 0, 6, 10, 1}}, FaultKind::shares_cell, 0, 1), "boxes share no cell");
     check(with({1, 1, {4, 0, 0, 6, 10, 1}}, FaultKind::group_in_two_bins, 0, 1), "a group is in one bin");
     check(is_fault({&first, 1}, FaultKind::not_placed, 1, 0), "a box is placed");
+}
+
+static bool is_cut(const rp::CutStep &it, rp::Axis axis, std::uint32_t place)
+{
+    return it.axis == axis && it.place == place;
+}
+
+/* A plan without cuts. */
+static bool is_one_leaf(const std::optional<std::vector<rp::CutStep>> &plan)
+{
+    return plan && plan->size() == 1 && is_cut(plan->front(), rp::Axis::leaf, 0);
+}
+
+/* Why boxes do not stand in a sheet of 10 x 10: the number and two places. */
+static bool are_wrong(rp::View<rp::Section> boxes, std::uint32_t kind, std::size_t first, std::size_t second)
+{
+    try {
+        rp::straight_cuts(rp::bin(10, 10), boxes);
+    } catch (const rp::WrongBoxes &error) {
+        const rp_wrong &it = error.wrong();
+        return error.status() == Status::wrong_boxes && it.kind == kind && it.bin == 0 && it.first == first && it.second == second;
+    }
+    return false;
+}
+
+static void test_straight_cuts()
+{
+    const rp::Bin sheet = rp::bin(10, 10);
+    const rp::Section left{0, 0, 0, 4, 10, 1}, corner{4, 0, 0, 6, 3, 1};
+    check(is_one_leaf(rp::straight_cuts(sheet, {})), "an empty sheet is cut");
+    check(is_one_leaf(rp::straight_cuts(rp::bin(0, 5), {})), "a sheet without cells is cut");
+    const rp::Section all[] = {{0, 0, 0, 10, 10, 1}};
+    check(is_one_leaf(rp::straight_cuts(sheet, all)), "a sheet that one box fills is cut");
+    // Left is cut off, and then what is free above the corner.
+    const std::vector<rp::Section> both = {corner, left};
+    const std::optional<std::vector<rp::CutStep>> plan = rp::straight_cuts(sheet, both);
+    check(plan && plan->size() == 5, "a plan has other steps");
+    check(is_cut((*plan)[0], rp::Axis::x, 4) && is_cut((*plan)[1], rp::Axis::leaf, 0), "left is not cut off");
+    check(is_cut((*plan)[2], rp::Axis::y, 3) && is_cut((*plan)[4], rp::Axis::leaf, 0), "a corner is not cut off");
+    const rp::Section pile[] = {{0, 0, 2, 1, 1, 3}};
+    const std::optional<std::vector<rp::CutStep>> deep = rp::straight_cuts(rp::bin(1, 1, 5), pile);
+    check(deep && deep->size() == 3 && is_cut((*deep)[0], rp::Axis::z, 2), "a pile is not cut");
+
+    const rp::Section pinwheel[] = {{0, 0, 0, 2, 1, 1}, {2, 0, 0, 1, 2, 1}, {1, 2, 0, 2, 1, 1}, {0, 1, 0, 1, 2, 1}};
+    check(!rp::straight_cuts(rp::bin(3, 3), pinwheel), "a pinwheel has a plan");
+    check(rp::straight_cuts(rp::bin(3, 3), {pinwheel, 3}).has_value(), "three strips of a pinwheel have no plan");
+
+    const rp::Section out{9, 0, 0, 2, 1, 1}, over{3, 9, 0, 2, 1, 1}, none{4, 4, 0, 0, 3, 1};
+    const rp::Section outside[] = {left, over, out}, sharing[] = {corner, left, over}, empty[] = {none, left, none};
+    check(are_wrong(outside, RP_WRONG_OUTSIDE, 2, 0), "a box is inside");
+    check(are_wrong(sharing, RP_WRONG_SHARED_CELL, 1, 2), "boxes share no cell");
+    check(rp::straight_cuts(sheet, empty)->size() == 3, "boxes without cells count");
+    must_be(Status::wrong_boxes, [&] { rp::straight_cuts(sheet, sharing); }, "wrong boxes are no refusal");
+}
+
+/* Boxes that stand alone, with more free sections than the first array has room for. */
+static void test_many_straight_cuts()
+{
+    std::vector<rp::Section> boxes;
+    for (std::uint32_t i = 0; i < 50; i++)
+        boxes.push_back({1 + 3 * i, 1 + 3 * i, 1 + 3 * i, 1, 1, 1});
+    const std::optional<std::vector<rp::CutStep>> plan = rp::straight_cuts(rp::bin(151, 151, 151), boxes);
+    check(plan && plan->size() > 8 * 51, "a plan of many steps is short");
+    std::size_t leaves = 0;
+    for (const rp::CutStep &it : *plan)
+        leaves += it.axis == rp::Axis::leaf;
+    check(plan->size() == 2 * leaves - 1, "a plan is no tree");
 }
 
 /* Why no session has these parts: the number, the bin and two places. */
@@ -495,6 +564,8 @@ int main()
     test_long_lists();
     test_refused_memory();
     test_judge();
+    test_straight_cuts();
+    test_many_straight_cuts();
     test_saved_sessions();
     test_moves();
     return 0;
