@@ -1,6 +1,7 @@
 //! The one place where the calls of C are made.
 
 mod calls;
+mod cuts;
 #[cfg(test)]
 mod kept;
 mod saved;
@@ -11,6 +12,7 @@ use std::ops::Range;
 use std::ptr;
 
 use calls::*;
+pub(crate) use cuts::straight_cuts;
 pub(crate) use saved::Saved;
 pub(crate) use calls::{
     Collection, RpBin, RpBox, RpClaim, RpEntry, RpExclusion, RpFault, RpOutstanding, RpPlacement,
@@ -363,7 +365,7 @@ fn cut_step(it: &RpCutStep) -> CutStep {
 /// the list goes. Where the list is longer than it was guessed to be, the call is made again.
 fn read<T: Clone + Default>(
     guess: usize,
-    call: impl Fn(*mut T, usize, *mut usize) -> u32,
+    mut call: impl FnMut(*mut T, usize, *mut usize) -> u32,
 ) -> Result<Vec<T>, u32> {
     let mut list = vec![T::default(); guess];
     loop {

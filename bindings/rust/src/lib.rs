@@ -28,7 +28,8 @@
 //! [`pack_rects_by`] packs by another heuristic than the volume, and [`pack_rects_best`] by the one with which the bins are used
 //! best. Groups that are [excluded](GroupedRectsToPlace::exclude) go into different bins.
 //!
-//! [`first_fault`] says what is wrong first with a packing, whoever made it.
+//! [`first_fault`] says what is wrong first with a packing, whoever made it. [`straight_cuts`] says how straight cuts part a bin into
+//! boxes that stand in it.
 //!
 //! These pack once. A [`Session`] keeps its bins: boxes are packed into them and released again, free sections are
 //! listed and joined, and a bin has a plan of the cuts that part it. Boxes are also placed where you say, or where they fit best,
@@ -37,6 +38,7 @@
 
 #![warn(missing_docs)]
 
+mod cutting;
 mod ffi;
 mod heuristic;
 mod judge;
@@ -44,6 +46,7 @@ mod pack;
 mod rects;
 mod session;
 
+pub use cutting::{straight_cuts, SectionsError};
 pub use heuristic::{Heuristic, UnknownHeuristic};
 pub use judge::{first_fault, AloneFault, Claim, Conflict, Fault, Turns};
 pub use pack::{pack_rects, pack_rects_best, pack_rects_by, RectanglePackError, RectanglePackOk};

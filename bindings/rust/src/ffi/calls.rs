@@ -214,6 +214,7 @@ pub(super) const TOO_LARGE: u32 = 14;
 pub(super) const NOT_FREE: u32 = 15;
 pub(super) const NOT_FROM_CUTS: u32 = 17;
 pub(super) const WRONG_PARTS: u32 = 18;
+pub(super) const WRONG_BOXES: u32 = 19;
 
 /// Asks for the best heuristic of all.
 pub(crate) const BEST: u32 = 0xffff;
@@ -324,5 +325,14 @@ extern "C" {
         claims: *const RpClaim,
         claim_count: usize,
         fault: *mut RpFault,
+    ) -> u32;
+    pub(super) fn rectangle_pack_straight_cuts(
+        bin: *const RpBin,
+        boxes: *const RpSection,
+        box_count: usize,
+        steps: *mut RpCutStep,
+        length: usize,
+        count: *mut usize,
+        wrong: *mut RpWrong,
     ) -> u32;
 }
