@@ -9,7 +9,8 @@ A Session keeps its bins from packing to packing, and releases boxes again. It l
 part a bin, takes boxes at places of your choice, and has bins cleared, made larger and removed. It is saved to a file by save, and
 Session.load makes it again.
 
-check judges a packing, whoever made it: it answers the first fault, or None.
+check judges a packing, whoever made it: it answers the first fault, or None. straight_cuts says how straight cuts part a bin into
+boxes that stand in it.
 
 Bins, boxes and groups have names: any values that a dict takes as keys. A list in place of a mapping means that the names are
 the indices.
@@ -18,6 +19,7 @@ The library is the file that RECTANGLE_PACK names, librectangle_pack.so beside t
 tools/build_c.sh writes."""
 from ._check import check
 from ._cuts import Axis, Cut, CutNode, CutStep, CutTree, Leaf
+from ._cutting import WrongBoxes, straight_cuts
 from ._errors import (
     BinInUse, DuplicateBin, EqualGroups, NotASession, NotEnoughBinSpace, NotFree, NotFromCuts, NumbersUsedUp, OutOfMemory,
     PackError, TooLarge, TooMany, UnknownAxis, UnknownBin, UnknownBox, UnknownHeuristic, UnknownPlacement, UnknownTurn,
@@ -30,6 +32,7 @@ from ._types import AnyHeuristic, Bin, Box, Heuristic, Outstanding, Packing, Pla
 __all__ = [
     "Bin", "Box", "pack", "Packing", "Placement", "Heuristic", "AnyHeuristic",
     "check", "Fault", "FaultKind", "Turn",
+    "straight_cuts", "WrongBoxes",
     "Session", "Outstanding", "Stats", "Section", "Axis", "Cut", "Leaf", "CutStep", "CutNode", "CutTree",
     "PackError", "NotEnoughBinSpace", "OutOfMemory", "TooMany", "UnknownHeuristic", "UnknownBox", "EqualGroups", "UnknownAxis",
     "UnknownTurn", "DuplicateBin", "UnknownBin", "UnknownPlacement", "NumbersUsedUp", "BinInUse", "TooLarge", "NotFree",

@@ -149,6 +149,7 @@ _BEST_PLACE = [ctypes.POINTER(RpBox), ctypes.c_uint32, ctypes.POINTER(RpOutstand
 _ARGUMENTS = {
     "collection": [*_list_of(RpBin), *_places_of(RpPlacement)],
     "check": [*_list_of(RpBin), *_list_of(RpEntry), *_list_of(RpExclusion), *_list_of(RpClaim), ctypes.POINTER(RpFault)],
+    "straight_cuts": [ctypes.POINTER(RpBin), *_list_of(RpSection), *_array_of(RpCutStep), ctypes.POINTER(RpWrong)],
     "session_new": [_SESSION],
     "session_restore": [_SESSION, ctypes.POINTER(RpSaved), ctypes.POINTER(RpWrong)],
     "session_free": [_SESSION],

@@ -2,8 +2,8 @@
 from __future__ import annotations
 
 from rectangle_pack import (
-    AnyHeuristic, Bin, Box, CutNode, Fault, FaultKind, Heuristic, Outstanding, Packing, Placement, Section, Session, Turn,
-    check, pack,
+    AnyHeuristic, Bin, Box, CutNode, CutStep, Fault, FaultKind, Heuristic, Outstanding, Packing, Placement, Section, Session,
+    Turn, WrongBoxes, check, pack, straight_cuts,
 )
 
 sheets = {"small": Bin(64, 64), "large": Bin(128, 128)}
@@ -45,6 +45,20 @@ check(sheets, sprites, packing, turn="about")  # type: ignore
 check(sheets, sprites, sprites)  # type: ignore
 check(sheets, sprites)  # type: ignore
 check(sheets, sprites, packing, turn={("hat", 1): 4})  # type: ignore
+
+steps: list[CutStep] | None = straight_cuts(Bin(10, 10), [Section(0, 0, 0, 4, 10, 1)])
+try:
+    straight_cuts(sheets["small"], (it for it in packing if it.bin == "small"))
+    straight_cuts(sheets["small"], [hat_place.section for hat_place in packing])
+except WrongBoxes as error:
+    wrong_box: int = error.first
+    other_box: int | None = error.second
+
+straight_cuts("small", packing)  # type: ignore
+straight_cuts(sheets, packing)  # type: ignore
+straight_cuts(sheets["small"], sprites)  # type: ignore
+straight_cuts(sheets["small"], [Box(1, 1)])  # type: ignore
+straight_cuts(sheets["small"])  # type: ignore
 
 with Session(sheets) as session:
     standing: Outstanding[tuple[str, int], str] = session.pack(sprites, heuristic="best")["hat", 1]
