@@ -29,6 +29,11 @@ GREATEST = 2**32 - 1
 Line = tuple[str, tuple[int, ...]]
 
 
+def empty(kind: type[c.Entry], length: int) -> ctypes.Array[c.Entry]:
+    """An array that a call writes to, with an entry more where it has none."""
+    return (kind * max(length, 1))()
+
+
 class Drawn:
     """The lines of a session."""
 
@@ -181,7 +186,7 @@ class InC:
         lists = (c.RpBox, self.boxes), (c.RpMember, self.members), (c.RpExclusion, self.exclusions)
         collection = c.RpCollection(*(part for kind, rows in lists for part in (c.listed(kind, rows), len(rows))))
         places, chosen = len(self.boxes) + len(self.members), ctypes.c_uint32()
-        array = c.empty(c.RpOutstanding, places)
+        array = empty(c.RpOutstanding, places)
         status = c.call("session_pack_collection", self.session, collection, heuristic, array, places, chosen)
         self.forget()
         if status == NOT_ENOUGH_SPACE:
@@ -241,10 +246,10 @@ class InC:
 
     def read(self, name: str, kind: type[c.Entry], *arguments: object) -> tuple[int, list[c.Entry]]:
         """The status of a call that writes a list, and the list."""
-        count, array = ctypes.c_size_t(), c.empty(kind, 0)
+        count, array = ctypes.c_size_t(), empty(kind, 0)
         status = c.call(name, self.session, *arguments, array, 0, count)
         if status == c.SHORT_ARRAY:
-            array = c.empty(kind, count.value)
+            array = empty(kind, count.value)
             status = c.call(name, self.session, *arguments, array, count.value, count)
         return status, list(array[:count.value])
 

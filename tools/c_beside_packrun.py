@@ -75,6 +75,11 @@ def groups_of(named: Iterable[tuple[int, int]]) -> dict[int, list[int]]:
     return groups
 
 
+def with_all(groups: dict[int, list[int]], pairs: Pairs) -> dict[int, list[int]]:
+    """The groups, and behind them those of pairs that have no boxes there."""
+    return {**groups, **{group: groups.get(group, []) for pair in pairs for group in pair}}
+
+
 def by_packrun(bins: Sequence[Size], boxes: list[Drawn], pairs: Pairs) -> list[str] | None:
     """What packrun answers, or None where there is not enough space."""
     lines = [bin_line(i, *size) for i, size in enumerate(bins)] + rect_lines(boxes) + exclude_lines(pairs)
@@ -87,7 +92,7 @@ def by_packrun(bins: Sequence[Size], boxes: list[Drawn], pairs: Pairs) -> list[s
 def by_call(bins: Sequence[Size], boxes: list[Drawn], pairs: Pairs) -> list[str] | None:
     """What the C call answers, in the words of packrun. A box says its first group, and the mapping the others."""
     named = {name: Box(*size, group=groups[0] if groups else None) for name, size, groups in boxes}
-    further = groups_of((group, name) for name, _, groups in boxes for group in groups[1:])
+    further = with_all(groups_of((group, name) for name, _, groups in boxes for group in groups[1:]), pairs)
     try:
         packing = rectangle_pack.pack([Bin(*size) for size in bins], named, groups=further, exclude=pairs)
     except rectangle_pack.NotEnoughBinSpace:
@@ -201,7 +206,7 @@ class BySession:
         self.pairs += pairs
         named = {name: Box(*size) for name, size, _ in self.boxes}
         groups = groups_of((group, name) for name, _, groups in self.boxes for group in groups)
-        packing = self.session.pack(named, groups=groups, exclude=self.pairs)
+        packing = self.session.pack(named, groups=with_all(groups, self.pairs), exclude=self.pairs)
         self.boxes, self.pairs = [], []
         rows = sorted((it.number, it) for it in packing)
         lines = (f"{number} r{it.name:06} b{it.bin:04} {' '.join(map(str, it.section))}" for number, it in rows)

@@ -22,7 +22,8 @@ from ._cuts import Axis, Cut, CutNode, CutStep, CutTree, Leaf
 from ._cutting import WrongBoxes, straight_cuts
 from ._errors import (
     BinInUse, DuplicateBin, EqualGroups, NotASession, NotEnoughBinSpace, NotFree, NotFromCuts, NumbersUsedUp, OutOfMemory,
-    PackError, TooLarge, TooMany, UnknownAxis, UnknownBin, UnknownBox, UnknownHeuristic, UnknownPlacement, UnknownTurn,
+    PackError, TooLarge, TooMany, UnknownAxis, UnknownBin, UnknownBox, UnknownGroup, UnknownHeuristic, UnknownPlacement,
+    UnknownTurn,
 )
 from ._faults import Fault, FaultKind
 from ._pack import pack
@@ -34,7 +35,7 @@ __all__ = [
     "check", "Fault", "FaultKind", "Turn",
     "straight_cuts", "WrongBoxes",
     "Session", "Outstanding", "Stats", "Section", "Axis", "Cut", "Leaf", "CutStep", "CutNode", "CutTree",
-    "PackError", "NotEnoughBinSpace", "OutOfMemory", "TooMany", "UnknownHeuristic", "UnknownBox", "EqualGroups", "UnknownAxis",
-    "UnknownTurn", "DuplicateBin", "UnknownBin", "UnknownPlacement", "NumbersUsedUp", "BinInUse", "TooLarge", "NotFree",
+    "PackError", "NotEnoughBinSpace", "OutOfMemory", "TooMany", "UnknownHeuristic", "UnknownBox", "UnknownGroup", "EqualGroups",
+    "UnknownAxis", "UnknownTurn", "DuplicateBin", "UnknownBin", "UnknownPlacement", "NumbersUsedUp", "BinInUse", "TooLarge", "NotFree",
     "NotFromCuts", "NotASession",
 ]

@@ -9,7 +9,8 @@ from . import _library
 from ._collection import Collection, items_of, names_and_sizes
 from ._errors import UnknownBox, UnknownTurn
 from ._faults import Fault, FaultKind
-from ._types import Bin, BinName, Box, BoxName, Groups, Pairs, Placement, Turn
+from ._numbers import check_rows
+from ._types import Bin, BinName, Box, BoxName, Groups, Pairs, Placement, Section, Turn
 
 # The library's numbers add up: by 1 height and depth may change places, by 2 width and depth, by 4 width and height.
 _TURNS: Mapping[str, int] = {"none": 0, "flat": 4, "upright": 2, "any": 1 + 2 + 4}
@@ -17,9 +18,10 @@ _TURNS: Mapping[str, int] = {"none": 0, "flat": 4, "upright": 2, "any": 1 + 2 + 
 _Placements = Sequence[Placement[BoxName, BinName]]
 
 
-def _number_of(turn: str) -> int:
+def _number_of(turn: str, *box: Hashable) -> int:
+    """The number of a turn, of one box or of all."""
     if turn not in _TURNS:
-        raise UnknownTurn(turn)
+        raise UnknownTurn(turn, *box)
     return _TURNS[turn]
 
 
@@ -52,13 +54,13 @@ class _Boxes:
         for name, it in items_of(turn):
             if name not in turns:
                 raise UnknownBox(name)
-            turns[name] = _number_of(it)
+            turns[name] = _number_of(it, name)
         return turns
 
-    def rows(self) -> list[tuple[object, ...]]:
+    def rows(self) -> list[tuple[int, ...]]:
         """The entries as C takes them."""
         number_of = self._collection.number_of
-        return [((*size, number_of(group)), self._turns[name]) for name, group, size in self.entries]
+        return [(*size, number_of(group), self._turns[name]) for name, group, size in self.entries]
 
     def indices(self, placements: _Placements[Any, Any]) -> list[int]:
         """For each placement the index of its entry, and one behind all where there is none. Where a group names a box several
@@ -72,12 +74,14 @@ class _Boxes:
         return found
 
 
-def _claims(placements: _Placements[Any, Any], bins: Sequence[Any], boxes: _Boxes) -> list[tuple[object, ...]]:
+def _claims(placements: _Placements[Any, Any], bins: Sequence[Any], boxes: _Boxes) -> list[tuple[int, ...]]:
     """The placements as C takes them. A bin that is not there has an index behind all others."""
     ids = {name: index for index, name in enumerate(bins)}
+    sections = [it.section for it in placements]
+    check_rows("placement of box", [it.name for it in placements], Section._fields, sections)
     return [
-        (index, ids.get(it.bin, len(bins)), tuple(map(_library.number, it.section)))
-        for index, it in zip(boxes.indices(placements), placements)]
+        (index, ids.get(it.bin, len(bins)), *section)
+        for index, it, section in zip(boxes.indices(placements), placements, sections)]
 
 
 def _fault(
@@ -122,8 +126,8 @@ def check(
     beside earlier ones, in the order of FaultKind and with the first of them. Where all may stand it is the first box that is
     not placed.
 
-    Raises OutOfMemory or TooMany; before anything is looked at UnknownTurn, UnknownBox or EqualGroups, which are ValueErrors;
-    and ValueError or TypeError where a size or a corner is not of numbers of 32 bits."""
+    Raises OutOfMemory or TooMany; before anything is looked at UnknownTurn, UnknownBox, UnknownGroup or EqualGroups, which are
+    ValueErrors; and ValueError or TypeError where a size or a corner is not of numbers of 32 bits."""
     names, sizes = names_and_sizes(bins)
     collection: Collection[Any] = Collection(boxes, groups or {}, exclude)
     to_place, given = _Boxes(collection, turn), list(placements)

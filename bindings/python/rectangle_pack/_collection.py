@@ -2,10 +2,11 @@
 from __future__ import annotations
 
 from collections.abc import Hashable, Iterable, Mapping
-from typing import Any, Generic, TypeVar, get_args
+from typing import Any, Generic, NoReturn, TypeVar, get_args
 
 from . import _library
-from ._errors import EqualGroups, UnknownBox, UnknownHeuristic
+from ._errors import EqualGroups, UnknownBox, UnknownGroup, UnknownHeuristic
+from ._numbers import SIDES, Size, check_rows
 from ._types import Bin, Box, BoxName, Groups, Heuristic, Pairs
 
 _Value = TypeVar("_Value")
@@ -13,16 +14,15 @@ _Value = TypeVar("_Value")
 # By their numbers.
 HEURISTICS: tuple[Heuristic, ...] = get_args(Heuristic)
 
-_BEST = 0xFFFF
+_NUMBERS: Mapping[str, int] = {**{name: number for number, name in enumerate(HEURISTICS)}, "best": 0xFFFF}
 
 
 def heuristic_number(heuristic: str) -> int:
     """The number of a heuristic. Raises UnknownHeuristic."""
-    if heuristic == "best":
-        return _BEST
-    if heuristic not in HEURISTICS:
-        raise UnknownHeuristic(heuristic)
-    return HEURISTICS.index(heuristic)
+    try:
+        return _NUMBERS[heuristic]
+    except (KeyError, TypeError):
+        raise UnknownHeuristic(heuristic) from None
 
 
 def items_of(values: Mapping[Any, _Value] | Iterable[_Value]) -> Iterable[tuple[Any, _Value]]:
@@ -30,46 +30,85 @@ def items_of(values: Mapping[Any, _Value] | Iterable[_Value]) -> Iterable[tuple[
     return values.items() if isinstance(values, Mapping) else enumerate(values)
 
 
-def names_and_sizes(bins: Mapping[Any, Bin] | Iterable[Bin]) -> tuple[list[Any], list[_library.Size]]:
+def bin_of(name: Hashable, size: Iterable[int]) -> Bin:
+    """A bin, which may be given as a plain tuple."""
+    try:
+        return Bin(*size)
+    except TypeError:
+        raise TypeError(f"bin {name!r}: {size!r} is no bin: write Bin(width, height)") from None
+
+
+def box_of(name: Hashable, box: Iterable[Any]) -> Box:
+    """A box, which may be given as a plain tuple."""
+    if type(box) is Box:
+        return box
+    try:
+        return Box(*box)
+    except TypeError:
+        raise TypeError(f"box {name!r}: {box!r} is no box: write Box(width, height)") from None
+
+
+def names_and_sizes(bins: Mapping[Any, Bin] | Iterable[Bin]) -> tuple[list[Any], list[Bin]]:
     """The names of bins, and their sizes."""
     named = list(items_of(bins))
-    return [name for name, _ in named], [_library.size(*Bin(*size)) for _, size in named]
+    names, sizes = [name for name, _ in named], [bin_of(name, size) for name, size in named]
+    check_rows("bin", names, SIDES, sizes)
+    return names, sizes
+
+
+def _refuse_pair(pair: object) -> NoReturn:
+    raise TypeError(f"{pair!r} is no pair of groups: write exclude=[('food', 'paint')]")
 
 
 class Collection(Generic[BoxName]):
     """Boxes with their groups, and pairs of groups that are excluded.
 
     The boxes have the indices 0, 1, 2 and so on, in their order. The groups have the numbers 1, 2, 3 and so on, in the order in
-    which they are named: by the boxes, then by the mapping of groups, then by the pairs. The first group of a box is its own.
-    For each further one the box is a member there."""
+    which they are named: by the boxes, then by the mapping of groups. The first group of a box is its own. For each further one
+    the box is a member there."""
 
     def __init__(self, boxes: Mapping[BoxName, Box] | Iterable[Box], groups: Groups[BoxName], exclude: Pairs) -> None:
-        named = [(name, Box(*box)) for name, box in items_of(boxes)]
+        named = [(name, box_of(name, box)) for name, box in items_of(boxes)]
         self._names: list[BoxName] = [name for name, _ in named]
-        self._sizes = [_library.size(*box[:3]) for _, box in named]
+        self._sizes: list[Size] = [box[:3] for _, box in named]
+        check_rows("box", self._names, SIDES, self._sizes)
         self._groups = [box.group for _, box in named]
         self._members: list[tuple[int, Hashable]] = []
-        self._numbers: dict[Hashable, int] = {}
-        for group in self._groups:
-            if group is not None:
-                self._number(group)
-        self._add_groups(groups)
+        # A box that is in no group has the number 0 there.
+        self._numbers: dict[Hashable, int] = {None: 0}
+        self._number_own()
+        if groups:
+            self._add_groups(groups)
         # The pairs, by the numbers of the groups.
-        self.excluded = [self._pair(one, other) for one, other in exclude]
+        self.excluded = [self._pair(pair) for pair in exclude]
 
-    def _number(self, group: Hashable) -> int:
-        """The number of a group, which is the next one where it was not named before."""
+    def _number_own(self) -> None:
+        """Numbers the groups that boxes say themselves."""
+        for name, group in zip(self._names, self._groups):
+            if group is not None:
+                try:
+                    self._number(group)
+                except TypeError as why:
+                    raise TypeError(f"box {name!r}: group {group!r} cannot be a name: {why}") from None
+
+    def _number(self, group: Hashable) -> None:
+        """Gives a group the next number, where it was not named before."""
         if group is None:
             raise ValueError("None is not the name of a group")
-        return self._numbers.setdefault(group, len(self._numbers) + 1)
+        self._numbers.setdefault(group, len(self._numbers))
 
     def _add_groups(self, groups: Groups[BoxName]) -> None:
+        if isinstance(groups, (str, bytes)):
+            raise TypeError(f"{groups!r} has no groups: write groups={{'hats': ['hat', 'cap']}}")
         indices = {name: index for index, name in enumerate(self._names)}
         for group, names in items_of(groups):
             self._number(group)
+            # A text would be read letter by letter.
+            if isinstance(names, (str, bytes)) or not isinstance(names, Iterable):
+                raise TypeError(f"group {group!r}: {names!r} is no list of boxes: write [{names!r}]")
             for name in names:
                 if name not in indices:
-                    raise UnknownBox(name)
+                    raise UnknownBox(name, group)
                 self._add(indices[name], group)
 
     def _add(self, index: int, group: Hashable) -> None:
@@ -78,26 +117,37 @@ class Collection(Generic[BoxName]):
         else:
             self._members.append((index, group))
 
-    def _pair(self, one: Hashable, other: Hashable) -> tuple[int, int]:
-        pair = self._number(one), self._number(other)
-        if pair[0] == pair[1]:
+    def _pair(self, pair: tuple[Hashable, Hashable]) -> tuple[int, int]:
+        if isinstance(pair, (str, bytes)):
+            _refuse_pair(pair)
+        try:
+            one, other = pair
+        except (TypeError, ValueError):
+            _refuse_pair(pair)
+        if one is None or other is None:
+            raise ValueError("None is not the name of a group")
+        if len({one, other}) == 1:
             raise EqualGroups(one)
-        return pair
+        for group in (one, other):
+            if group not in self._numbers:
+                raise UnknownGroup(group)
+        return self._numbers[one], self._numbers[other]
 
-    def entries(self) -> list[tuple[BoxName, Hashable, _library.Size]]:
+    def entries(self) -> list[tuple[BoxName, Hashable, Size]]:
         """The name, the group and the size of each box, and then those of each member."""
         own = zip(self._names, self._groups, self._sizes)
         return [*own, *((self._names[index], group, self._sizes[index]) for index, group in self._members)]
 
     def number_of(self, group: Hashable) -> int:
         """The number of a group that was named; 0 for None, as where a box is alone."""
-        return 0 if group is None else self._numbers[group]
+        return self._numbers[group]
 
     def as_c(self) -> _library.RpCollection:
         """The collection as C takes it."""
-        boxes = [(*size, self.number_of(group)) for size, group in zip(self._sizes, self._groups)]
-        members = [(index, self.number_of(group)) for index, group in self._members]
+        numbers = map(self.number_of, self._groups)
+        boxes = ((*size, number) for size, number in zip(self._sizes, numbers))
+        members = ((index, self.number_of(group)) for index, group in self._members)
         return _library.RpCollection(
-            _library.listed(_library.RpBox, boxes), len(boxes),
-            _library.listed(_library.RpMember, members), len(members),
+            _library.listed(_library.RpBox, boxes), len(self._sizes),
+            _library.listed(_library.RpMember, members), len(self._members),
             _library.listed(_library.RpExclusion, self.excluded), len(self.excluded))

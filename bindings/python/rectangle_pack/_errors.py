@@ -1,8 +1,7 @@
 """Why a call was refused."""
 from __future__ import annotations
 
-from collections.abc import Hashable, Iterator
-from contextlib import contextmanager
+from collections.abc import Hashable
 
 
 class PackError(Exception):
@@ -40,10 +39,28 @@ class UnknownHeuristic(PackError, ValueError):
     text = "There is no such heuristic"
 
 
-class UnknownBox(PackError, ValueError):
+class _OfAnother(PackError):
+    """What is wrong may be said in something that has a name too: then that is the second argument."""
+
+    owner = ""
+
+    def __str__(self) -> str:
+        if len(self.args) < 2:
+            return super().__str__()
+        name, of = self.args
+        return f"{self.text}: {name!r}, of {self.owner} {of!r}"
+
+
+class UnknownBox(_OfAnother, ValueError):
     """A group names a box that is not packed; or the turns of a packing that is judged name one that is not there."""
 
-    text = "There is no such box"
+    text, owner = "There is no such box", "group"
+
+
+class UnknownGroup(PackError, ValueError):
+    """A group is excluded that neither a box nor the mapping of groups names."""
+
+    text = "There is no such group"
 
 
 class EqualGroups(PackError, ValueError):
@@ -58,10 +75,10 @@ class UnknownAxis(PackError, ValueError):
     text = "There is no such axis"
 
 
-class UnknownTurn(PackError, ValueError):
+class UnknownTurn(_OfAnother, ValueError):
     """Boxes cannot be turned in the way of this name."""
 
-    text = "There is no such turn"
+    text, owner = "There is no such turn", "box"
 
 
 class DuplicateBin(PackError):
@@ -121,14 +138,18 @@ class NotASession(PackError, ValueError):
         return f"{self.text}: {self.args[0]}" if self.args else f"{self.text}."
 
 
-@contextmanager
-def naming(
-    name: Hashable,
-    kinds: tuple[type[PackError], ...] = (DuplicateBin, UnknownBin, UnknownPlacement, BinInUse, TooLarge, NotFromCuts),
-) -> Iterator[None]:
+class naming:
     """Says in an error of these kinds which bin or which placement it is about, or which place."""
-    try:
-        yield
-    except kinds as error:
-        error.args = (name,)
-        raise
+
+    def __init__(
+        self, name: Hashable,
+        kinds: tuple[type[PackError], ...] = (DuplicateBin, UnknownBin, UnknownPlacement, BinInUse, TooLarge, NotFromCuts),
+    ) -> None:
+        self._name, self._kinds = name, kinds
+
+    def __enter__(self) -> None:
+        pass
+
+    def __exit__(self, kind: object, error: BaseException | None, trace: object) -> None:
+        if error is not None and isinstance(error, self._kinds):
+            error.args = (self._name,)

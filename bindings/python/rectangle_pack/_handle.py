@@ -6,6 +6,7 @@ import functools
 import threading
 import weakref
 from collections.abc import Callable
+from itertools import islice
 from typing import Any, TypeVar, cast
 
 from . import _library
@@ -62,21 +63,21 @@ class Handle:
         self._check_open()
         _library.check(_library.call(f"session_{name}", self._handle, *arguments))
 
-    def _ask(self, name: str, kind: type[_library.Entry], *arguments: object) -> tuple[int, list[_library.Entry]]:
-        """The status of a call that writes a list, and the list. A list is most often as long as it was, so that one call is
-        enough; where it is longer, the call has said how long, and is made again."""
+    def _ask(self, name: str, kind: type[_library.Entry], *arguments: object) -> tuple[int, list[tuple[int, ...]]]:
+        """The status of a call that writes a list, and the list, each entry as its numbers. A list is most often as long as it
+        was, so that one call is enough; where it is longer, the call has said how long, and is made again."""
         self._check_open()
         count, status = ctypes.c_size_t(self._lengths.get(name, 0)), _library.SHORT_ARRAY
         while status == _library.SHORT_ARRAY:
             length = count.value
-            array = _library.empty(kind, length)
-            status = _library.call(f"session_{name}", self._handle, *arguments, array, length, count)
+            room, first = _library.room_of(kind, length)
+            status = _library.call(f"session_{name}", self._handle, *arguments, first, length, count)
         if status:
             return status, []
         self._lengths[name] = count.value
-        return status, array[:count.value]
+        return status, [*islice(_library.row_of(kind).iter_unpack(room), count.value)]
 
-    def _read(self, name: str, kind: type[_library.Entry], *arguments: object) -> list[_library.Entry]:
-        status, entries = self._ask(name, kind, *arguments)
+    def _read(self, name: str, kind: type[_library.Entry], *arguments: object) -> list[tuple[int, ...]]:
+        status, rows = self._ask(name, kind, *arguments)
         _library.check(status)
-        return entries
+        return rows

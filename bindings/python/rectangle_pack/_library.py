@@ -4,13 +4,15 @@ from __future__ import annotations
 import ctypes
 import functools
 import os
-from collections.abc import Sequence
+import struct
+from collections.abc import Callable, Iterable
+from itertools import starmap
 from pathlib import Path
-from typing import TypeVar
+from typing import Any, TypeVar
 
 from ._errors import (
-    BinInUse, DuplicateBin, EqualGroups, NotASession, NotEnoughBinSpace, NotFree, NotFromCuts, NumbersUsedUp, OutOfMemory, PackError, TooLarge,
-    TooMany, UnknownAxis, UnknownBin, UnknownBox, UnknownHeuristic, UnknownPlacement,
+    BinInUse, DuplicateBin, EqualGroups, NotASession, NotEnoughBinSpace, NotFree, NotFromCuts, NumbersUsedUp, OutOfMemory,
+    PackError, TooLarge, TooMany, UnknownAxis, UnknownBin, UnknownBox, UnknownHeuristic, UnknownPlacement,
 )
 
 
@@ -112,9 +114,6 @@ class BinId(ctypes.Structure):
 
 Entry = TypeVar("Entry", bound=ctypes.Structure)
 
-# A width, a height and a depth, of 32 bits each.
-Size = tuple[int, int, int]
-
 SHORT_ARRAY, NO_PLAN, WRONG_PARTS = 8, 9, 18
 
 ERRORS: dict[int, type[PackError]] = {
@@ -187,23 +186,24 @@ def _path() -> str:
 
 
 @functools.lru_cache(maxsize=None)
-def loaded() -> ctypes.CDLL:
-    """The library, which is looked for at the first call."""
+def loaded() -> dict[str, Callable[..., int]]:
+    """The calls of the library by their names. It is looked for at the first call."""
     try:
         library = ctypes.CDLL(_path())
     except OSError as why:
         raise ImportError(f"the shared library cannot be loaded (in a clone tools/build_c.sh builds it): {why}") from None
+    calls: dict[str, Callable[..., int]] = {}
     for name, arguments in _ARGUMENTS.items():
         function = getattr(library, f"rectangle_pack_{name}")
         function.argtypes = arguments
         function.restype = _RESULTS.get(name, ctypes.c_uint32)
-    return library
+        calls[name] = function
+    return calls
 
 
 def call(name: str, *arguments: object) -> int:
     """What the call of this name answers: a status, or a number."""
-    answer: int = getattr(loaded(), f"rectangle_pack_{name}")(*arguments)
-    return answer
+    return loaded()[name](*arguments)
 
 
 def check(status: int) -> None:
@@ -212,24 +212,27 @@ def check(status: int) -> None:
         raise ERRORS[status]()
 
 
-def number(value: int, bits: int = 32) -> int:
-    """The number, where so many bits hold it: ctypes alone would drop the bits above."""
-    if not isinstance(value, int) or isinstance(value, bool):
-        raise TypeError(f"not a whole number: {value!r}")
-    if not 0 <= value < 2**bits:
-        raise ValueError(f"not a number from 0 to 2**{bits} - 1: {value}")
-    return value
+def _format(kind: type[Any]) -> str:
+    """The numbers of a structure, as the module struct has them."""
+    if issubclass(kind, ctypes.Structure):
+        return "".join(_format(field[1]) for field in kind._fields_)
+    return "I" if kind is ctypes.c_uint32 else "Q"
 
 
-def size(width: int, height: int, depth: int) -> Size:
-    return number(width), number(height), number(depth)
+@functools.lru_cache(maxsize=None)
+def row_of(kind: type[ctypes.Structure]) -> struct.Struct:
+    """By it the numbers of a structure become bytes, and bytes become numbers, many rows at a time."""
+    return struct.Struct(_format(kind))
 
 
-def listed(kind: type[Entry], rows: Sequence[tuple[object, ...]]) -> ctypes.Array[Entry]:
-    """The rows as C takes them. An empty list has an entry that is not counted, so that no pointer is NULL."""
-    return (kind * max(len(rows), 1))(*(kind(*row) for row in rows))
+def listed(kind: type[Entry], rows: Iterable[tuple[int, ...]]) -> ctypes._Pointer[Entry]:
+    """The rows as C takes them: where the first one is. An empty list has an entry that is not counted, so that no pointer is
+    NULL."""
+    data = bytearray(b"".join(starmap(row_of(kind).pack, rows)))
+    return ctypes.pointer(kind.from_buffer(data or bytearray(ctypes.sizeof(kind))))
 
 
-def empty(kind: type[Entry], length: int) -> ctypes.Array[Entry]:
-    """An array that a call writes to, with an entry more where it has none."""
-    return (kind * max(length, 1))()
+def room_of(kind: type[Entry], length: int) -> tuple[bytearray, Entry]:
+    """Room for a list that a call writes, with an entry more where it has none; and its first entry, which the call is given."""
+    room = bytearray(ctypes.sizeof(kind) * max(length, 1))
+    return room, kind.from_buffer(room)

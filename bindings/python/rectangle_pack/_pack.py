@@ -57,6 +57,9 @@ def pack(
     >>> [f"{it.name} in {it.bin}" for it in packing]
     ['milk in front', 'paint in back']
 
+    A group without boxes excludes nothing. It is named by a list that is empty: groups={"poison": []}. A name that neither a
+    box nor groups has is refused, since it may be mistyped.
+
     heuristic says what boxes, bins and pieces of a bin are rated by. With "best" each is tried, and the one is taken that
     needs the fewest bins. The answer says which one that is:
 
@@ -64,17 +67,18 @@ def pack(
     >>> packing.heuristic
     'height'
 
-    Raises NotEnoughBinSpace, OutOfMemory or TooMany; before anything is packed UnknownHeuristic, UnknownBox or EqualGroups,
-    which are ValueErrors; and ValueError or TypeError where a size is not a number of 32 bits."""
+    Raises NotEnoughBinSpace, OutOfMemory or TooMany; before anything is packed UnknownHeuristic, UnknownBox, UnknownGroup or
+    EqualGroups, which are ValueErrors; ValueError or TypeError where a size is not a number of 32 bits; and TypeError where a
+    text stands in place of a list of names."""
     asked = heuristic_number(heuristic)
     names, sizes = names_and_sizes(bins)
     collection: Collection[Any] = Collection(boxes, groups or {}, exclude)
     entries = collection.entries()
-    places, chosen = _library.empty(_library.RpPlacement, len(entries)), ctypes.c_uint32()
-    bin_list = _library.listed(_library.RpBin, sizes)
+    room, first = _library.room_of(_library.RpPlacement, len(entries))
+    chosen, bin_list = ctypes.c_uint32(), _library.listed(_library.RpBin, sizes)
     _library.check(_library.call(
-        "collection", bin_list, len(sizes), collection.as_c(), asked, places, len(entries), chosen))
+        "collection", bin_list, len(sizes), collection.as_c(), asked, first, len(entries), chosen))
     placements = (
-        Placement(name, group, names[at.bin], at.x, at.y, at.z, *size)
-        for (name, group, size), at in zip(entries, places))
+        Placement(name, group, names[bin], x, y, z, *size)
+        for (name, group, size), (bin, x, y, z) in zip(entries, _library.row_of(_library.RpPlacement).iter_unpack(room)))
     return Packing(HEURISTICS[chosen.value], tuple(placements))

@@ -7,6 +7,7 @@ from typing import Any, NamedTuple
 
 from . import _library
 from ._errors import NotASession
+from ._numbers import MOST, MOST_OF_64, number
 from ._types import Bin, Section
 
 # What a file says that it is. Files of a later version are refused.
@@ -78,11 +79,11 @@ class _Value:
             raise self.wrong("is no list")
         return [_Value(it, f"{self._where}[{index}]") for index, it in enumerate(self._value)]
 
-    def number(self, bits: int = 32) -> int:
+    def number(self, most: int = MOST) -> int:
         try:
-            return _library.number(self._value, bits)
+            return number(self._value, self._where, most)
         except (TypeError, ValueError) as why:
-            raise self.wrong(f"is {why}") from None
+            raise NotASession(str(why)) from None
 
     def truth(self) -> bool:
         if not isinstance(self._value, bool):
@@ -113,7 +114,7 @@ def _bin(it: _Value) -> SavedBin:
 
 def _placement(it: _Value) -> SavedPlacement:
     return SavedPlacement(
-        it["number"].number(64), it["name"].name(), it["group"].name(), it["bin"].number(), it["at"].section())
+        it["number"].number(MOST_OF_64), it["name"].name(), it["group"].name(), it["bin"].number(), it["at"].section())
 
 
 def saved_of(text: str) -> Saved:
@@ -131,7 +132,7 @@ def saved_of(text: str) -> Saved:
         raise NotASession(f"version {version}, and only {_VERSION} is known")
     saved = Saved(
         [_bin(it) for it in whole["bins"].items()], [_placement(it) for it in whole["placements"].items()],
-        whole["next_number"].number(64))
+        whole["next_number"].number(MOST_OF_64))
     _look_for_equal_names(saved)
     return saved
 
@@ -146,8 +147,8 @@ def _look_for_equal_names(saved: Saved) -> None:
 def as_c(saved: Saved) -> _library.RpSaved:
     """The parts as C takes them. The ids of bins are their places in the list."""
     sections = [section for it in saved.bins for section in it.free]
-    bins = [(index, it.size, it.coalesced, len(it.free)) for index, it in enumerate(saved.bins)]
-    placements = [(it.number, 0, it.bin, it.section) for it in saved.placements]
+    bins = [(index, *it.size, int(it.coalesced), len(it.free)) for index, it in enumerate(saved.bins)]
+    placements = [(it.number, 0, it.bin, *it.section) for it in saved.placements]
     return _library.RpSaved(
         _library.listed(_library.RpSavedBin, bins), len(bins), _library.listed(_library.RpSection, sections), len(sections),
         _library.listed(_library.RpStanding, placements), len(placements), saved.next_number)

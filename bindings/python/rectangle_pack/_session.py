@@ -9,11 +9,12 @@ from types import TracebackType
 from typing import Any, Generic, overload
 
 from . import _library
-from ._collection import HEURISTICS, Collection, heuristic_number, items_of
+from ._collection import HEURISTICS, Collection, bin_of, box_of, heuristic_number, items_of
 from ._cuts import AXES, Axis, Cut, CutStep, CutTree, Leaf, axis_number, tree_of
-from ._errors import NotASession, NotFree, TooMany, UnknownHeuristic, naming
+from ._errors import NotASession, NotFree, TooMany, UnknownHeuristic, UnknownPlacement, naming
 from ._files import write_whole
 from ._handle import Handle, alone
+from ._numbers import MOST_OF_64, SIDES, Size, check_row, number as checked
 from ._saving import Saved, SavedBin, SavedPlacement, as_c, saved_of, what_is_wrong
 from ._types import AnyHeuristic, Bin, BinName, Box, BoxName, Groups, Heuristic, Outstanding, Packing, Pairs, Section, Stats
 
@@ -23,6 +24,8 @@ _NO_BIN = 2**32 - 1
 # In place of the name of a bin, which may be None: any bin will do.
 _ANY_BIN: Any = object()
 
+_OUTSTANDING = _library.row_of(_library.RpOutstanding)
+
 
 def _volume(parts: _library.RpVolume) -> int:
     low: int = parts.low
@@ -30,8 +33,22 @@ def _volume(parts: _library.RpVolume) -> int:
     return low + (high << 64)
 
 
-def _section(it: _library.RpSection) -> Section:
-    return Section(it.x, it.y, it.z, it.width, it.height, it.depth)
+class _OneBox:
+    """What a packing of one box is told and what it answers. It is kept for the next one, so that nothing is made anew."""
+
+    def __init__(self) -> None:
+        self.box, self.place, self.chosen = _library.RpBox(), _library.RpOutstanding(), ctypes.c_uint32()
+        none = _library.listed(_library.RpMember, []), 0, _library.listed(_library.RpExclusion, []), 0
+        self.collection = _library.RpCollection(ctypes.pointer(self.box), 1, *none)
+
+
+def _the_one(boxes: Mapping[Any, Box] | Sequence[Box]) -> tuple[Any, Box] | None:
+    """The name and the box, where there is one, and it is alone."""
+    if not isinstance(boxes, (dict, list)) or len(boxes) != 1:
+        return None
+    (name, box), = boxes.items() if isinstance(boxes, dict) else enumerate(boxes)
+    box = box_of(name, box)
+    return (name, box) if box.group is None else None
 
 
 class Session(Handle, Generic[BinName]):
@@ -76,8 +93,9 @@ class Session(Handle, Generic[BinName]):
         self._next_id = 0
         # The name of the box, its group and the id of its bin, for each number that is outstanding.
         self._boxes: dict[int, tuple[Any, Hashable, int]] = {}
+        self._one_boxes: list[_OneBox] = []
         for name, size in items_of(bins):
-            self.add_bin(name, *size)
+            self.add_bin(name, *bin_of(name, size))
 
     def __enter__(self) -> Session[BinName]:
         self._check_open()
@@ -101,7 +119,8 @@ class Session(Handle, Generic[BinName]):
         """Adds a bin of this size under a name of the caller's choice. It stays until it is removed or the session is closed.
 
         Raises DuplicateBin or OutOfMemory; or TooMany, once 2**32 - 1 bins were added, also where they were removed."""
-        size, id = _library.size(width, height, depth), self._new_id(bin)
+        size, id = (width, height, depth), self._new_id(bin)
+        check_row("bin", bin, SIDES, size)
         if id == _NO_BIN:
             raise TooMany()
         with naming(bin):
@@ -116,15 +135,15 @@ class Session(Handle, Generic[BinName]):
 
         Names of bins, boxes and groups may be texts, whole numbers, None, and tuples of these. Raises TypeError where one is not,
         and OSError."""
-        homes = {it.bin: index for index, it in enumerate(self._read("bins", _library.BinId))}
+        homes = {id: index for index, (id,) in enumerate(self._read("bins", _library.BinId))}
         bins = []
         for id in homes:
             name = self._names[id]
             bins.append(SavedBin(name, Bin(*self._sides[id]), self.was_coalesced(name), self.free_sections(name)))
         placements = []
-        for it in self._read("outstanding", _library.RpStanding):
-            box, group, _ = self._boxes[it.number]
-            placements.append(SavedPlacement(it.number, box, group, homes[it.bin], _section(it.section)))
+        for number, _, id, *section in self._read("outstanding", _library.RpStanding):
+            box, group, _ = self._boxes[number]
+            placements.append(SavedPlacement(number, box, group, homes[id], Section(*section)))
         write_whole(Path(path), Saved(bins, placements, self.next_number()).text().encode())
 
     @classmethod
@@ -167,10 +186,11 @@ class Session(Handle, Generic[BinName]):
         [Section(x=0, y=0, z=0, width=4, height=10, depth=1), Section(x=4, y=0, z=0, width=6, height=10, depth=1)]
 
         Raises UnknownBin, TooLarge or OutOfMemory; and before these UnknownAxis, which is a ValueError."""
-        number, id, cells = axis_number(axis), self._id(bin), _library.number(by)
+        number, id = axis_number(axis), self._id(bin)
+        check_row("bin", bin, ("by",), (by,))
         with naming(bin):
-            self._call("grow_bin", id, number, cells)
-        self._sides[id][number] += cells
+            self._call("grow_bin", id, number, by)
+        self._sides[id][number] += by
 
     @alone
     def clear_bin(self, bin: BinName) -> None:
@@ -229,7 +249,6 @@ class Session(Handle, Generic[BinName]):
         groups: Groups[int] | None = ..., exclude: Pairs = ..., heuristic: AnyHeuristic = ...,
     ) -> Packing[int, Outstanding[int, BinName]]: ...
 
-    @alone
     def pack(
         self, boxes: Mapping[Any, Box] | Sequence[Box], *,
         groups: Groups[Any] | None = None, exclude: Pairs = (), heuristic: AnyHeuristic = "volume",
@@ -243,18 +262,40 @@ class Session(Handle, Generic[BinName]):
         those for which it is a further group.
 
         Raises NotEnoughBinSpace, OutOfMemory, TooMany or NumbersUsedUp; and before anything is packed UnknownHeuristic,
-        UnknownBox or EqualGroups, which are ValueErrors."""
+        UnknownBox, UnknownGroup or EqualGroups, which are ValueErrors."""
         asked = heuristic_number(heuristic)
-        collection: Collection[Any] = Collection(boxes, groups or {}, exclude)
-        entries = collection.entries()
-        places, chosen = _library.empty(_library.RpOutstanding, len(entries)), ctypes.c_uint32()
-        self._call("pack_collection", collection.as_c(), asked, places, len(entries), chosen)
-        placed = []
-        for (name, group, size), it in zip(entries, places):
-            at = it.placement
-            self._boxes[it.number] = (name, group, at.bin)
-            placed.append(Outstanding(name, group, self._names[at.bin], at.x, at.y, at.z, *size, it.number))
+        one = None if groups or exclude else _the_one(boxes)
+        return self._pack_all(Collection(boxes, groups or {}, exclude), asked) if one is None else self._pack_one(*one, asked)
+
+    def _pack_all(self, collection: Collection[Any], asked: int) -> Packing[Any, Outstanding[Any, BinName]]:
+        entries, chosen = collection.entries(), ctypes.c_uint32()
+        room, first = _library.room_of(_library.RpOutstanding, len(entries))
+        told, placed = collection.as_c(), []
+        with self._lock:
+            self._call("pack_collection", told, asked, first, len(entries), chosen)
+            for (name, group, size), (number, id, x, y, z) in zip(entries, _OUTSTANDING.iter_unpack(room)):
+                self._boxes[number] = (name, group, id)
+                placed.append(Outstanding(name, group, self._names[id], x, y, z, *size, number))
         return Packing(HEURISTICS[chosen.value], tuple(placed))
+
+    def _pack_one(self, name: Any, box: Box, asked: int) -> Packing[Any, Outstanding[Any, BinName]]:
+        """Packs a box that is alone."""
+        size = box[:3]
+        check_row("box", name, SIDES, size)
+        with self._lock:
+            # A call that comes in between, as of a finalizer, takes another one.
+            it = self._one_boxes.pop() if self._one_boxes else _OneBox()
+            it.box.width, it.box.height, it.box.depth = size
+            self._call("pack_collection", it.collection, asked, it.place, 1, it.chosen)
+            placed, chosen = self._stands(name, size, it.place), it.chosen.value
+            self._one_boxes.append(it)
+        return Packing(HEURISTICS[chosen], (placed,))
+
+    def _stands(self, name: Any, size: Size, place: _library.RpOutstanding) -> Outstanding[Any, BinName]:
+        """Keeps the name of a box that is alone, and says where it stands."""
+        number, id, x, y, z = _OUTSTANDING.unpack(place)
+        self._boxes[number] = (name, None, id)
+        return Outstanding(name, None, self._names[id], x, y, z, *size, number)
 
     @alone
     def place_at(self, bin: BinName, name: BoxName, section: Section) -> Outstanding[BoxName, BinName]:
@@ -267,8 +308,8 @@ class Session(Handle, Generic[BinName]):
 
         Raises UnknownBin, NumbersUsedUp or OutOfMemory; or NotFree where no free section of the bin holds the box there, also
         where its cells are free in several."""
-        id, place = self._id(bin), Section(*map(_library.number, section))
-        number = ctypes.c_uint64()
+        id, place, number = self._id(bin), Section(*section), ctypes.c_uint64()
+        check_row("box", name, Section._fields, place)
         with naming(bin), naming(place, (NotFree,)):
             self._call("place_at", id, _library.RpSection(*place), number)
         self._boxes[number.value] = (name, None, id)
@@ -291,26 +332,28 @@ class Session(Handle, Generic[BinName]):
 
         Raises UnknownHeuristic, which is a ValueError, also for "best"; UnknownBin, NumbersUsedUp or OutOfMemory; or
         NotEnoughBinSpace where no free section holds the box."""
-        size = _library.size(width, height, depth)
-        asked, place = heuristic_number(heuristic), _library.RpOutstanding()
+        size, place = (width, height, depth), _library.RpOutstanding()
+        check_row("box", name, SIDES, size)
+        asked = heuristic_number(heuristic)
         with naming(heuristic, (UnknownHeuristic,)), naming(bin):
             if bin is _ANY_BIN:
                 self._call("place_best_anywhere", _library.RpBox(*size), asked, place)
             else:
                 self._call("place_best", self._id(bin), _library.RpBox(*size), asked, place)
-        at = place.placement
-        self._boxes[place.number] = (name, None, at.bin)
-        return Outstanding(name, None, self._names[at.bin], at.x, at.y, at.z, *size, place.number)
+        return self._stands(name, size, place)
 
-    @alone
     def release(self, number: int) -> None:
         """Releases a placement by its number: its cells are free again, as the newest free section of its bin, the last of the
         list. A box without cells leaves none.
 
         Raises UnknownPlacement or OutOfMemory."""
-        with naming(number):
-            self._call("release", _library.number(number, 64))
-        del self._boxes[number]
+        checked(number, "placement", MOST_OF_64)
+        with self._lock:
+            try:
+                self._call("release", number)
+            except UnknownPlacement:
+                raise UnknownPlacement(number) from None
+            del self._boxes[number]
 
     @alone
     def release_all(self, numbers: Iterable[int]) -> None:
@@ -324,7 +367,7 @@ class Session(Handle, Generic[BinName]):
         []
 
         Raises UnknownPlacement, also where a number stands twice, or OutOfMemory."""
-        listed = [_library.number(it, 64) for it in numbers]
+        listed = [checked(it, "placement", MOST_OF_64) for it in numbers]
         self._call("release_all", (ctypes.c_uint64 * max(len(listed), 1))(*listed), len(listed))
         for number in listed:
             del self._boxes[number]
@@ -353,8 +396,10 @@ class Session(Handle, Generic[BinName]):
         [Section(x=0, y=0, z=0, width=10, height=10, depth=1)]
 
         Raises UnknownBin."""
+        named = {"index": index, "start": start, "end": end}
+        whole = [checked(value, f"bin {bin!r}: {name}", MOST_OF_64) for name, value in named.items()]
         with naming(bin):
-            self._call("coalesce", self._id(bin), *(_library.number(it, 64) for it in (index, start, end)))
+            self._call("coalesce", self._id(bin), *whole)
 
     @alone
     def was_coalesced(self, bin: BinName) -> bool:
@@ -375,7 +420,7 @@ class Session(Handle, Generic[BinName]):
     @alone
     def bins(self) -> list[BinName]:
         """The names of all bins, in the order in which they were added."""
-        return [self._names[it.bin] for it in self._read("bins", _library.BinId)]
+        return [self._names[id] for id, in self._read("bins", _library.BinId)]
 
     @alone
     def free_sections(self, bin: BinName) -> list[Section]:
@@ -383,16 +428,16 @@ class Session(Handle, Generic[BinName]):
 
         Raises UnknownBin."""
         with naming(bin):
-            return [_section(it) for it in self._read("free_sections", _library.RpSection, self._id(bin))]
+            return [Section(*it) for it in self._read("free_sections", _library.RpSection, self._id(bin))]
 
     @alone
     def outstanding(self) -> list[Outstanding[Any, BinName]]:
         """The outstanding placements of all bins, in the order of their numbers."""
-        return [self._standing(it) for it in self._read("outstanding", _library.RpStanding)]
-
-    def _standing(self, it: _library.RpStanding) -> Outstanding[Any, BinName]:
-        name, group, _ = self._boxes[it.number]
-        return Outstanding(name, group, self._names[it.bin], *_section(it.section), it.number)
+        standing = []
+        for number, _, id, x, y, z, width, height, depth in self._read("outstanding", _library.RpStanding):
+            name, group, _ = self._boxes[number]
+            standing.append(Outstanding(name, group, self._names[id], x, y, z, width, height, depth, number))
+        return standing
 
     @alone
     def cut_plan(self, bin: BinName) -> list[CutStep] | None:
@@ -412,7 +457,7 @@ class Session(Handle, Generic[BinName]):
             if status == _library.NO_PLAN:
                 return None
             _library.check(status)
-        return [Cut(AXES[it.axis], it.place) if it.axis < len(AXES) else Leaf() for it in steps]
+        return [Cut(AXES[axis], place) if axis < len(AXES) else Leaf() for axis, place in steps]
 
     @alone
     def cut_tree(self, bin: BinName) -> CutTree | None:

@@ -60,7 +60,8 @@ class Stats(NamedTuple):
     placements: int
 
 
-@dataclass(frozen=True)
+# Placements set their fields at once: a frozen dataclass would set one after the other, in more than twice the time.
+@dataclass(frozen=True, init=False)
 class Placement(Generic[BoxName, BinName]):
     """Where a box stands: its name; the group for which it stands there, or None; the name of its bin; its corner and its size,
     in cells."""
@@ -74,16 +75,28 @@ class Placement(Generic[BoxName, BinName]):
     height: int
     depth: int
 
+    def __init__(
+        self, name: BoxName, group: Hashable, bin: BinName, x: int, y: int, z: int, width: int, height: int, depth: int,
+    ) -> None:
+        self.__dict__.update(name=name, group=group, bin=bin, x=x, y=y, z=z, width=width, height=height, depth=depth)
+
     @property
     def section(self) -> Section:
         """The corner and the size."""
         return Section(self.x, self.y, self.z, self.width, self.height, self.depth)
 
 
-@dataclass(frozen=True)
+@dataclass(frozen=True, init=False)
 class Outstanding(Placement[BoxName, BinName]):
     """Where a box stands in a session, and the number by which it is released."""
     number: int
+
+    def __init__(
+        self, name: BoxName, group: Hashable, bin: BinName, x: int, y: int, z: int, width: int, height: int, depth: int,
+        number: int,
+    ) -> None:
+        self.__dict__.update(
+            name=name, group=group, bin=bin, x=x, y=y, z=z, width=width, height=height, depth=depth, number=number)
 
 
 Placed = TypeVar("Placed", bound=Placement[Any, Any])
@@ -107,6 +120,9 @@ class Packing(Generic[BoxName, Placed]):
 
     def __getitem__(self, name: BoxName) -> Placed:
         """Raises KeyError where there is no such box, and LookupError where it has several placements."""
+        # For one box it takes no index.
+        if len(self.placements) == 1 and self.placements[0].name == name:
+            return self.placements[0]
         placements = self._by_name[name]
         if len(placements) > 1:
             groups = ", ".join(repr(it.group) for it in placements)

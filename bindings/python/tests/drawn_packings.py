@@ -100,7 +100,7 @@ class Drawn:
 
     def _give_groups(self):
         """What the call is given: the group of some boxes, for each group the names of others; and the entries, in order."""
-        of_boxes, self.groups = {name: [] for name in self.sizes}, {}
+        of_boxes, self.groups = {name: [] for name in self.sizes}, {"nobody's": []}
         for claim in self.claims:
             of_boxes[claim.name].append(claim.group)
         self.boxes, own, members = {}, [], []

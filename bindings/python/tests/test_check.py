@@ -21,7 +21,7 @@ class ByHand(unittest.TestCase):
     # Two pages of 10 x 10. Group hats is hat and cap, group shoes is boot, and tree is alone.
     BINS = {"page": Bin(10, 10), "next": Bin(10, 10)}
     BOXES = {"hat": Box(4, 10, group="hats"), "cap": Box(6, 5), "boot": Box(6, 5, group="shoes"), "tree": Box(10, 9)}
-    GROUPS = {"hats": ["cap"]}
+    GROUPS = {"hats": ["cap"], "lost": [], "others": []}
     HAT, CAP = at("hat", 0, 0, 4, 10, group="hats"), at("cap", 4, 0, 6, 5, group="hats")
     BOOT, TREE = at("boot", 4, 5, 6, 5, group="shoes"), at("tree", 0, 1, 10, 9, "next")
     PACKING = [HAT, CAP, BOOT, TREE]

@@ -5,7 +5,7 @@ from unittest import mock
 
 import rectangle_pack
 from rectangle_pack import (
-    Bin, Box, EqualGroups, Fault, FaultKind, OutOfMemory, Placement, TooMany, UnknownBox, UnknownTurn, check,
+    Bin, Box, EqualGroups, Fault, FaultKind, OutOfMemory, Placement, TooMany, UnknownBox, UnknownGroup, UnknownTurn, check,
 )
 
 from .test_check import at
@@ -21,13 +21,26 @@ class Refusals(unittest.TestCase):
             self.assertRaises(ValueError, check, [Bin(bad, 1)], [], [])
             self.assertRaises(ValueError, check, [], [Box(1, bad)], [])
 
+    def test_a_number_that_is_refused_is_named(self):
+        placed = [at("hat", 0, 0, 1, 1), at("cap", 0, -1, 1, 1)]
+        cases = [
+            ((Bin(1, 1),), {"hat": Box(1, -1)}, [], "box 'hat': height -1 is not a number from 0 to 4294967295"),
+            ({"page": Bin(1, 1.5)}, {}, [], "bin 'page': height 1.5 is not a whole number"),
+            ({"page": Bin(1, 1)}, {}, placed, "placement of box 'cap': y -1 is not a number from 0 to 4294967295"),
+        ]
+        for bins, boxes, placements, text in cases:
+            with self.assertRaises((ValueError, TypeError)) as refused:
+                check(bins, boxes, placements)
+            self.assertEqual(str(refused.exception), text)
+
     def test_names(self):
         wrong = [
             (UnknownTurn, {"turn": "about"}, "There is no such turn: 'about'"),
-            (UnknownTurn, {"turn": {"hat": None}}, "There is no such turn: None"),
+            (UnknownTurn, {"turn": {"hat": None}}, "There is no such turn: None, of box 'hat'"),
             (UnknownBox, {"turn": {"cap": "flat"}}, "There is no such box: 'cap'"),
-            (UnknownBox, {"groups": {"hats": ["cap"]}}, "There is no such box: 'cap'"),
+            (UnknownBox, {"groups": {"hats": ["cap"]}}, "There is no such box: 'cap', of group 'hats'"),
             (EqualGroups, {"exclude": [("hats", "hats")]}, "A group is excluded with itself: 'hats'"),
+            (UnknownGroup, {"groups": {"hats": ["hat"]}, "exclude": [("hats", "caps")]}, "There is no such group: 'caps'"),
         ]
         for error, arguments, text in wrong:
             with mock.patch.object(rectangle_pack._library, "call") as call, self.assertRaises(ValueError) as refused:

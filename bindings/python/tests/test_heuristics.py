@@ -38,11 +38,14 @@ class Case:
             for name in names:
                 self.groups.setdefault(name, []).append(("box", index))
         self.exclude = [tuple(r.sample("abcde", 2)) for _ in range(r.choice([0, 0, 1, 3]))]
+        # A group without boxes is named by a list that is empty.
+        for group in (group for pair in self.exclude for group in pair):
+            self.groups.setdefault(group, [])
         self.number_all()
 
     def number_all(self):
         named = [box.group for box in self.boxes.values() if box.group is not None]
-        named += [*self.groups, *(group for pair in self.exclude for group in pair)]
+        named += self.groups
         numbers = {group: number for number, group in enumerate(dict.fromkeys(named), 1)}
         first, members = {name: box.group for name, box in self.boxes.items()}, []
         for group, names in self.groups.items():

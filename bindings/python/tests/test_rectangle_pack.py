@@ -99,10 +99,10 @@ class Pack(unittest.TestCase):
 
     def test_the_example_of_other_languages(self):
         packing = pack(
-            {"page": Bin(512, 512)}, {"hat": Box(10, 20), "cap": Box(5, 5)},
-            groups={"hats": ["hat", "cap"]}, exclude=[("hats", "shoes")], heuristic="best")
+            {"page": Bin(512, 512), "next": Bin(512, 512)}, {"hat": Box(10, 20), "cap": Box(5, 5), "boot": Box(8, 8)},
+            groups={"hats": ["hat", "cap"], "shoes": ["boot"]}, exclude=[("hats", "shoes")], heuristic="best")
         self.assertEqual((packing["hat"].bin, packing["hat"].group, packing["hat"].section[:3]), ("page", "hats", (0, 0, 0)))
-        self.assertEqual(packing.heuristic, "volume")
+        self.assertEqual((packing["boot"].bin, packing.heuristic), ("next", "volume"))
 
 
 class Names(unittest.TestCase):
@@ -152,7 +152,7 @@ class Names(unittest.TestCase):
         boxes = {"a": Box(1, 1), "b": Box(1, 1, group="late"), "c": Box(1, 1), "d": Box(1, 1, group="early"), "e": Box(1, 1)}
         packing = pack([Bin(5, 1)], boxes, groups={"last": ["a"], "lost": []})
         self.assertEqual({it.name: it.x for it in packing}, {"c": 0, "e": 1, "b": 2, "d": 3, "a": 4})
-        packing = pack([Bin(5, 1)], boxes, groups={"early": [], "last": ["a"]}, exclude=[("other", "last")])
+        packing = pack([Bin(5, 1)], boxes, groups={"early": [], "last": ["a"], "other": []}, exclude=[("other", "last")])
         self.assertEqual({it.name: it.x for it in packing}, {"c": 0, "e": 1, "b": 2, "d": 3, "a": 4})
 
 
@@ -203,8 +203,8 @@ class Exclusions(unittest.TestCase):
 
     def test_a_pair_of_which_one_group_has_no_boxes_excludes_nothing(self):
         for pair in (("hats", "shoes"), ("shoes", "hats")):
-            packing = pack(self.BINS, {"hat": Box(1, 1), "cap": Box(1, 1)}, groups={"hats": ["hat", "cap"]}, exclude=[pair])
-            self.assertEqual(bins_of(packing), ["first", "first"])
+            boxes, groups = {"hat": Box(1, 1), "cap": Box(1, 1)}, {"hats": ["hat", "cap"], "shoes": []}
+            self.assertEqual(bins_of(pack(self.BINS, boxes, groups=groups, exclude=[pair])), ["first", "first"])
 
     def test_there_may_be_too_few_bins(self):
         boxes = {name: Box(1, 1, group=name) for name in ("a", "b", "c")}
@@ -221,7 +221,7 @@ class Exclusions(unittest.TestCase):
     def test_a_group_is_not_excluded_with_itself(self):
         for one, other in (("a", "a"), (1, 1.0), (("a", 1), ("a", 1))):
             with self.assertRaises(ValueError) as refused:
-                pack(self.BINS, {}, exclude=[("a", "b"), (one, other)])
+                pack(self.BINS, {}, groups={"a": [], "b": []}, exclude=[("a", "b"), (one, other)])
             self.assertIsInstance(refused.exception, EqualGroups)
             self.assertEqual(str(refused.exception), f"A group is excluded with itself: {one!r}")
 
@@ -280,8 +280,8 @@ class Errors(unittest.TestCase):
             (UnknownHeuristic, {"heuristic": "weight"}, "There is no such heuristic: 'weight'"),
             (UnknownHeuristic, {"heuristic": "Volume"}, "There is no such heuristic: 'Volume'"),
             (UnknownHeuristic, {"heuristic": None}, "There is no such heuristic: None"),
-            (UnknownBox, {"groups": {"hats": ["hat", "cap"]}}, "There is no such box: 'cap'"),
-            (UnknownBox, {"groups": {"hats": [0]}}, "There is no such box: 0"),
+            (UnknownBox, {"groups": {"hats": ["hat", "cap"]}}, "There is no such box: 'cap', of group 'hats'"),
+            (UnknownBox, {"groups": {"hats": [0]}}, "There is no such box: 0, of group 'hats'"),
             (EqualGroups, {"exclude": [("hats", "hats")]}, "A group is excluded with itself: 'hats'"),
         ]
         for error, arguments, text in wrong:

@@ -93,7 +93,7 @@ class Packings(unittest.TestCase):
             self.assertEqual([it.bin for it in together], ["large", "large"])
             self.assertEqual(session.pack([Box(2, 2, group=1)])[0].bin, "small")
             # The small bin is full. In the large one a box stands of what was group 1 then.
-            self.assertEqual(session.pack([Box(1, 1, group=2)], exclude=[(1, 2)])[0].bin, "large")
+            self.assertEqual(session.pack([Box(1, 1, group=2)], groups={1: []}, exclude=[(1, 2)])[0].bin, "large")
             with self.assertRaises(NotEnoughBinSpace):
                 session.pack([Box(1, 1, group=2), Box(1, 1, group=1)], exclude=[(1, 2)])
 
@@ -320,7 +320,7 @@ class Refusals(unittest.TestCase):
                 (UnknownPlacement, str(2**64 - 1), lambda: session.release(2**64 - 1)),
                 (NotEnoughBinSpace, None, lambda: session.pack([Box(1, 1), Box(7, 1)])),
                 (UnknownHeuristic, "'weight'", lambda: session.pack([Box(1, 1)], heuristic="weight")),
-                (UnknownBox, "1", lambda: session.pack([Box(1, 1)], groups={"a": [0, 1]})),
+                (UnknownBox, "1, of group 'a'", lambda: session.pack([Box(1, 1)], groups={"a": [0, 1]})),
                 (EqualGroups, "'a'", lambda: session.pack([Box(1, 1)], exclude=[("a", "a")])),
             ]
             for error, about, call in refused:

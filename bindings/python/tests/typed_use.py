@@ -7,7 +7,7 @@ from rectangle_pack import (
 )
 
 sheets = {"small": Bin(64, 64), "large": Bin(128, 128)}
-sprites = {("hat", 1): Box(10, 20, group="hats"), ("tree", 1): Box(60, 60)}
+sprites = {("hat", 1): Box(10, 20, group="hats"), ("tree", 1): Box(60, 60, group=3)}
 groups = {"hats": [("tree", 1)]}
 
 packing: Packing[tuple[str, int], Placement[tuple[str, int], str]] = pack(sheets, sprites, groups=groups, exclude=[("hats", 3)])

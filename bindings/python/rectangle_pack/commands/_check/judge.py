@@ -68,7 +68,9 @@ def first_fault(layout: Layout, path: Path) -> Found | None:
             boxes[claim.box] = Box(*cells.box(claim.own_size), group=claim.group)
             turns[claim.box] = "flat" if claim.is_turned else "none"
     placements = [_placement(claim, cells) for claim in layout.claims]
-    fault = check(bins, boxes, placements, exclude=layout.excluded, turn=turns)
+    # A pair may name a group of which no box is told.
+    groups: dict[Hashable, list[Hashable]] = {group: [] for pair in layout.excluded for group in pair}
+    fault = check(bins, boxes, placements, groups=groups, exclude=layout.excluded, turn=turns)
     if fault is None:
         return None
     # All boxes are placed. So a fault is that of a placement, or of two.

@@ -78,7 +78,9 @@ class _Replay:
     def _pack(self, line: Line) -> Step:
         entries, sizes = self.waiting.entries(), self.waiting.sizes
         boxes = [Box(*sizes[name], group=group or None) for name, group in entries]
-        packing = self.session.pack(boxes, exclude=sorted(self.waiting.pairs))
+        pairs = sorted(self.waiting.pairs)
+        # A pair may name a group without boxes.
+        packing = self.session.pack(boxes, groups={group: [] for pair in pairs for group in pair}, exclude=pairs)
         placed = [self._item(it, entries[it.name][0]) for it in sorted(packing, key=lambda it: it.number)]
         self.waiting = Waiting()
         self._homes.update((it.number, it.bin) for it in placed)
