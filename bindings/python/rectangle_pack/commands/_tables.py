@@ -2,6 +2,7 @@
 from __future__ import annotations
 
 import csv
+import sys
 from collections.abc import Iterator, Mapping, Sequence
 from dataclasses import dataclass
 from decimal import Decimal, InvalidOperation
@@ -75,18 +76,28 @@ def _delimiter(head: str) -> str:
     return max(",;\t", key=head.count)
 
 
-def _rows(path: Path, lines: list[str], columns: Sequence[str], optional: Sequence[str]) -> Iterator[Row]:
-    reader = csv.reader(lines, delimiter=_delimiter(lines[0]), strict=True)
-    names = [name.strip().lower() for name in next(reader)]
-    known = (*columns, *optional)
-    for name in names:
-        if name not in known:
-            raise Wrong(f"the column {name!r} is not known; there are: {', '.join(known)}", path, 1)
+def _check_names(path: Path, names: Sequence[str], columns: Sequence[str], optional: Sequence[str], passes_over: bool) -> None:
+    """Refuses names of columns that are wrong. Those that are not known are said in one line where they are passed over."""
+    known, others = (*columns, *optional), dict.fromkeys(repr(name) for name in names if name not in (*columns, *optional))
+    if others and not passes_over:
+        raise Wrong(f"the column {next(iter(others))} is not known; there are: {', '.join(known)}", path, 1)
+    for name in known:
         if names.count(name) > 1:
             raise Wrong(f"the column {name!r} is named twice", path, 1)
     for name in columns:
         if name not in names:
             raise Wrong(f"the column {name!r} is missing", path, 1)
+    if others:
+        what = f"the column {next(iter(others))} is" if len(others) == 1 else f"the columns {', '.join(others)} are"
+        print(f"note: {path}:1: {what} not known, and passed over; there are: {', '.join(known)}", file=sys.stderr)
+
+
+def _rows(
+    path: Path, lines: list[str], columns: Sequence[str], optional: Sequence[str], passes_over: bool,
+) -> Iterator[Row]:
+    reader = csv.reader(lines, delimiter=_delimiter(lines[0]), strict=True)
+    names = [name.strip().lower() for name in next(reader)]
+    _check_names(path, names, columns, optional, passes_over)
     line = reader.line_num + 1
     for values in reader:
         if any(value.strip() for value in values):
@@ -96,8 +107,9 @@ def _rows(path: Path, lines: list[str], columns: Sequence[str], optional: Sequen
         line = reader.line_num + 1
 
 
-def read_table(path: Path, columns: Sequence[str], optional: Sequence[str] = ()) -> list[Row]:
-    """The rows of a table that has these columns and may have the optional ones, in any order. Empty lines are passed over."""
+def read_table(path: Path, columns: Sequence[str], optional: Sequence[str] = (), passes_over: bool = False) -> list[Row]:
+    """The rows of a table that has these columns and may have the optional ones, in any order. Other columns are refused, or
+    passed over. Empty lines are passed over."""
     try:
         text = path.read_bytes().decode("utf-8-sig")
     except OSError as why:
@@ -108,6 +120,6 @@ def read_table(path: Path, columns: Sequence[str], optional: Sequence[str] = ())
     if not lines or not lines[0].strip():
         raise Wrong(f"is empty; its first line names the columns: {', '.join(columns)}", path)
     try:
-        return list(_rows(path, lines, columns, optional))
+        return list(_rows(path, lines, columns, optional, passes_over))
     except csv.Error as why:
         raise Wrong(f"is no table: {why}", path) from None

@@ -6,7 +6,9 @@ from pathlib import Path
 from typing import Any
 
 from ._common import DONE, print_json, refuse_over, write
+from ._folder import earlier_files, refuse_earlier
 from ._load.checks import refuse_left, refuse_misfits
+from ._load.plans import OURS, write_plans
 from ._load.printing import as_csv, as_json, as_text, scene_of
 from ._load.reading import read_job
 from ._load.report import report_of
@@ -37,7 +39,8 @@ CONTAINERS is a table too:
   count                  how many there are; 1 where it is left out
   cost                   of each, for all kinds or for none
 
-All sizes are in one unit, whole or with decimals, and are kept to the last digit.
+All sizes are in one unit, whole or with decimals, and are kept to the last digit. Other columns,
+such as weight, are passed over, and one line on standard error names them.
 """
 
 EPILOG = """\
@@ -92,13 +95,25 @@ def add_to(commands: Any) -> None:
                         "containers, each with steps; piece of a step is which crate of its line it is, and line counts the "
                         "head of the table as line 1")
     parser.add_argument("--csv", type=Path, metavar="FILE", help="write a line for each crate, in the order of loading")
+    parser.add_argument("--plans", type=Path, metavar="FOLDER",
+                        help="write a sheet of text to print for each container: container-1.txt and so on")
+    parser.add_argument("--replace", action="store_true",
+                        help="the plans of an earlier run in the folder go; a folder with such plans is refused without it")
     parser.add_argument("--page", type=Path, metavar="FILE", help="write an HTML page that shows the loading step by step")
     parser.set_defaults(run=_run)
 
 
-def _run(options: argparse.Namespace) -> int:
-    for path in (options.csv, options.page):
+def _check_files(options: argparse.Namespace) -> None:
+    """Refuses what would be written over, before the search."""
+    plans = [] if options.plans is None else earlier_files(options.plans, OURS)
+    for path in (options.csv, options.page, *plans):
         refuse_over(path, options.crates, options.containers, options.apart_list)
+    if options.plans is not None:
+        refuse_earlier(options.plans, OURS, options.replace)
+
+
+def _run(options: argparse.Namespace) -> int:
+    _check_files(options)
     job = read_job(
         options.crates, options.containers, apart=options.apart, apart_list=options.apart_list,
         together=options.together, unit=options.unit)
@@ -108,6 +123,8 @@ def _run(options: argparse.Namespace) -> int:
     report = report_of(load)
     if options.csv is not None:
         write(options.csv, as_csv(report))
+    if options.plans is not None:
+        write_plans(report, options.plans)
     if options.page is not None:
         from .view import write_page
 

@@ -82,7 +82,7 @@ class Known(Judged):
                 tables = self.crates(f"{NAMES},down", f"post,1,3,2,1,{down}"), self.containers(NAMES, "box,1,2,1,3")
                 status, _, error = self.run_load(*tables)
                 self.assertEqual(status, 1)
-                self.assertRegex(error, r"^crate 'post' of line 2 \(3 x 2 x 1\) fits into no container, [^\n]+\n$")
+                self.assertRegex(error, r"^no container is large enough, [^\n]+ for 1 x 'post' of line 2 \(3 x 2 x 1\)\n$")
 
     def test_faces_may_be_written_in_several_ways(self):
         for down in ("END/side", "side + end", '"side, end"', "side & end"):

@@ -30,6 +30,21 @@ step  crate  customer  x  y  z  wide  high  long  down    on
 1 container, cost 5.50, 2 crates, 100 % filled
 """
 
+# Two lines for one container, and what its plan says.
+MIXED = (f"{HEAD},customer,stackable", "cube,10,1,1,1,Miller,", "plank,1,5,2,1,,no")
+MIXED_PLAN = """\
+Container 1 of 1: van, 2 wide, 2 high, 5 long, in m
+11 crates, 100 % filled, 5 of the length in use
+
+  10 x cube, 1 x 1 x 1 m, Miller
+   1 x plank, 5 x 2 x 1 m
+
+X from the right wall, as one looks in at the door; y up from the floor; z from the end wall to the door.
+Load in the order of the steps. Each crate goes straight in from the door, at the height at which it stands.
+
+    step  crate  customer  x  y  z  wide  high  long  down    on
+"""
+
 # Nothing may stand on the plank, so it is on the five cubes.
 PLANK = (f"{HEAD},stackable", "cube,5,1,1,1,", "plank,1,5,1,1,no")
 LONG_VAN = (HEAD, "van,1,5,1,2")
@@ -68,6 +83,44 @@ class Output(LoadCase):
         self.assertRegex(out, r"\n   6  plank +0  1  0 +1 +1 +5  bottom  5 crates\n")
         self.assertTrue(path.read_text().endswith(",plank,,0,1,0,1,1,5,bottom,1 2 3 4 5\n"))
         self.assertEqual(self.loaded(*tables)["containers"][0]["steps"][5]["on"], [1, 2, 3, 4, 5])
+
+    def test_the_plan_of_a_container(self):
+        folder = self.folder / "new" / "plans"
+        words = self.crates(*MIXED), self.containers(HEAD, "van,1,5,2,2"), "--unit", "m"
+        status, out, error = self.run_load(*words, "--plans", folder)
+        self.assertEqual((status, error, [path.name for path in folder.iterdir()]), (0, "", ["container-1.txt"]))
+        plan = (folder / "container-1.txt").read_text()
+        self.assertTrue(plan.startswith(MIXED_PLAN), plan)
+        # Below its head it has the steps that are printed, each with a box to tick.
+        printed = out.splitlines()
+        steps = printed[printed.index(MIXED_PLAN.splitlines()[-1].strip()) + 1:-2]
+        self.assertEqual(plan[len(MIXED_PLAN):].splitlines(), [f"[ ] {step}" for step in steps])
+        self.assertEqual(len(steps), 11)
+
+    def test_a_plan_for_each_container(self):
+        folder = self.folder / "plans"
+        words = self.crates(HEAD, "cube,2,1,1,1"), self.containers(HEAD, "van,3,1,1,1")
+        self.assertEqual(self.loaded(*words, "--plans", folder)["crates"], 2)
+        self.assertEqual(sorted(path.name for path in folder.iterdir()), ["container-1.txt", "container-2.txt"])
+        for number in (1, 2):
+            head, sums = (folder / f"container-{number}.txt").read_text().splitlines()[:2]
+            self.assertEqual(head, f"Container {number} of 2: van {number}, 1 wide, 1 high, 1 long")
+            self.assertEqual(sums, "1 crate, 100 % filled, 1 of the length in use")
+
+    def test_columns_that_are_not_known(self):
+        crates = self.crates(f"{HEAD},Weight,colour,weight", "cube,2,1,1,1,400,red,9")
+        containers = self.containers("payload,name,count,length,width,height", "9000,van,1,2,1,1")
+        apart = self.table("apart.csv", "customer,other,why", "Miller,Smith,smell")
+        status, out, error = self.run_load(crates, containers, "--apart-list", apart)
+        self.assertEqual((status, out.splitlines()[-1]), (0, "1 container, 2 crates, 100 % filled"))
+        known = "name, length, width, height, count"
+        self.assertEqual(error.splitlines()[:3], [
+            f"note: {crates}:1: the columns 'weight', 'colour' are not known, and passed over; there are: {known}, customer, "
+            "down, stackable",
+            f"note: {containers}:1: the column 'payload' is not known, and passed over; there are: {known}, cost",
+            f"note: {apart}:1: the column 'why' is not known, and passed over; there are: customer, other",
+        ])
+        self.assertEqual(len(error.splitlines()), 5)
 
     def test_the_table_has_what_the_answer_in_json_has(self):
         path = self.folder / "new" / "load.csv"
@@ -109,7 +162,7 @@ class Output(LoadCase):
         self.assertEqual((run.returncode, run.stdout, run.stderr), (0, ROW_TEXT, ""))
         self.crates(HEAD, "cube,3,1,1,1")
         run = self.run_as_user("crates.csv", "containers.csv")
-        full = "the containers are full: they have a volume of 2, and the crates 3\n"
+        full = "the containers are full: they have a volume of 2 cubic units, and the crates 3 cubic units\n"
         self.assertEqual((run.returncode, run.stdout, run.stderr), (1, "", full))
         run = self.run_as_user("crates.csv", "none.csv")
         missing = "none.csv: cannot be read: No such file or directory\n"

@@ -100,35 +100,54 @@ class Refusals(LoadCase):
     def test_what_does_not_fit(self):
         crate = (HEAD, "small,1,1,1", "long one,9.5,1,1")
         self.by_crates(
-            crate, "crate 'long one' of line 3 (9.5 x 1 x 1) fits into no container, however the list lets it be turned", 1)
+            crate, "no container is large enough, however the list lets crates be turned, for 1 x 'long one' of line 3 "
+            "(9.5 x 1 x 1)", 1)
         crate = (HEAD, "a,9,9,9", "b,9,9,9")
-        self.by_crates(crate, "the containers are full: they have a volume of 729, and the crates 1458", 1)
+        full = "the containers are full: they have a volume of 729 cubic {}, and the crates 1458 cubic {}"
+        self.by_crates(crate, full.format("units", "units"), 1)
+        self.by_crates(crate, full.format("dm", "dm"), 1, words=("--unit", "dm"))
         crate = (ALL, "a,2,5,9,9,,,")
         self.by_crates(
-            crate, "the containers are full: 1 of 2 crates are left over, 1 of them crate 'a' of line 2 (5 x 9 x 9)", 1,
+            crate, "the containers are full: 1 of 2 crates are left over: 1 x 'a' of line 2 (5 x 9 x 9)", 1,
             rooms=("box,9,9,9", "other,4,9,9"))
+
+    def test_each_kind_that_does_not_fit_is_named(self):
+        # The second is too long as it stands, and the third either way.
+        crates = (ALL, "small,1,1,1,1,,,", "pole,3,1,1,12,,upright,", "plank,2,12,1,1,,,")
+        self.by_crates(
+            crates, "no container is large enough, however the list lets crates be turned, for 3 x 'pole' of line 3 "
+            "(1 x 1 x 12 cm), 2 x 'plank' of line 4 (12 x 1 x 1 cm)", 1, words=("--unit", "cm"))
+        # One block goes into each box. No room has a place for more of them, nor any for a slab beside one.
+        crates = (ALL, "block,3,6,6,6,,,", "slab,2,6,6,4,,,", "pin,1,1,1,1,,,")
+        self.by_crates(
+            crates, "the containers are full: 3 of 6 crates are left over: 1 x 'block' of line 2 (6 x 6 x 6 cm), "
+            "2 x 'slab' of line 3 (6 x 6 x 4 cm)", 1, rooms=("box,9,9,6.5", "other,6,6,6", "flat,30,30,1"), words=("--unit", "cm"))
 
     def test_customers_that_do_not_fit(self):
         rooms = ("box,9,9,9", "other,9,9,9", "third,9,9,9")
         together = ("--together",)
         self.by_crates(
             (ALL, "a,2,9,9,9,Miller,,"),
-            "the crates of customer 'Miller' are to be kept together, and have a volume of 1458; the greatest container has "
-            "729", 1, rooms, together)
+            "the greatest container has a volume of 729 cubic units, and crates that are to be kept together have more: "
+            "those of customer 'Miller' 1458 cubic units", 1, rooms, together)
+        self.by_crates(
+            (ALL, "a,2,9,9,5,Miller,,", "b,1,1,1,1,Jones,,", "c,10,9,9,1,Smith,,"),
+            "the greatest container has a volume of 729 cubic m, and crates that are to be kept together have more: "
+            "those of customer 'Miller' 810 cubic m, those of customer 'Smith' 810 cubic m", 1, rooms, (*together, "--unit", "m"))
         # Of two only one fits into each.
         self.by_crates(
             (ALL, "a,2,5,5,5,Miller,,", "b,1,1,5,9,Miller,,"),
-            "3 of 3 crates are left over: those of customer 'Miller' do not all fit into one container that is free",
-            1, rooms, together)
+            "no container that is free takes all crates of customer 'Miller'; 3 of 3 crates are left over: "
+            "2 x 'a' of line 2 (5 x 5 x 5), 1 x 'b' of line 3 (1 x 5 x 9)", 1, rooms, together)
         # One container is left, and is too low.
         self.by_crates(
             (ALL, "a,1,9,9,9,Miller,,", "b,1,1,1,1,Smith,,"),
-            "1 of 2 crates are left over: those of customer 'Smith' do not all fit into one container that is free",
-            1, ("box,9,9,9", "low,2,1,0.9"), together)
+            "no container that is free takes all crates of customer 'Smith'; 1 of 2 crates are left over: "
+            "1 x 'b' of line 3 (1 x 1 x 1)", 1, ("box,9,9,9", "low,2,1,0.9"), together)
         # None is left, as one crate is nobody's.
         self.by_crates(
             (ALL, "a,1,9,9,8,Miller,,no", "b,2,2,1,1,Smith,,", "c,1,1,1,1,,,"),
-            "the containers are full: 2 of 4 crates are left over, 2 of them crate 'b' of line 3 (2 x 1 x 1)",
+            "the containers are full: 2 of 4 crates are left over: 2 x 'b' of line 3 (2 x 1 x 1)",
             1, ("box,9,9,9", "small,3,1,1"), together)
 
     def test_words(self):
@@ -158,6 +177,26 @@ class Refusals(LoadCase):
                 answer = self.run_load(crates, containers, word, path)
                 self.assertEqual(answer, (2, "", f"{path}: is read, and would be lost: name another file to write\n"))
                 self.assertEqual(path.read_bytes(), before)
+        path = crates.rename(self.folder / "container-1.txt")
+        answer = self.run_load(path, containers, "--plans", self.folder, "--replace")
+        self.assertEqual(answer, (2, "", f"{path}: is read, and would be lost: name another file to write\n"))
+        self.assertTrue(path.is_file())
+
+    def test_plans_of_an_earlier_run(self):
+        crates, containers = self.crates(HEAD, "a,1,1,1"), self.containers(HEAD, "box,9,9,9")
+        folder = self.folder / "plans"
+        folder.mkdir()
+        kept, earlier = folder / "container-list.txt", folder / "container-7.txt"
+        for path in (kept, earlier):
+            path.write_text("mine")
+        answer = self.run_load(crates, containers, "--plans", folder)
+        self.assertEqual(answer, (2, "", f"{earlier}: is there already, of an earlier run: --replace lets it go\n"))
+        # A load that is refused removes none.
+        self.assertEqual(self.run_load(self.table("large.csv", HEAD, "a,10,1,1"), containers, "--plans", folder, "--replace")[0], 1)
+        self.assertEqual(earlier.read_text(), "mine")
+        self.assertEqual(self.run_load(crates, containers, "--plans", folder, "--replace")[0], 0)
+        self.assertEqual(sorted(os.listdir(folder)), ["container-1.txt", "container-list.txt"])
+        self.assertEqual(self.run_load(crates, containers, "--plans", crates)[1:], ("", f"{crates}: is not a folder\n"))
 
 
 if __name__ == "__main__":

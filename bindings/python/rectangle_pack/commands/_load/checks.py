@@ -1,6 +1,8 @@
 """Why a load is refused."""
 from __future__ import annotations
 
+from collections.abc import Sequence
+
 from .._common import NoRoom
 from .job import Job, Kind, Room
 from .search import Load
@@ -8,15 +10,18 @@ from .search import Load
 __all__ = ["refuse_left", "refuse_misfits"]
 
 
-def _crate(job: Job, kind: Kind) -> str:
-    sides = " x ".join(job.told(side) for side in kind.sizes)
-    return f"crate {kind.name!r} of line {kind.line} ({sides})"
+def _counted(job: Job, kinds: Sequence[tuple[Kind, int]]) -> str:
+    """Each kind of crates, with how many there are: 2 x 'pallet' of line 3 (120 x 80 x 105 cm)"""
+    return ", ".join(f"{count} x {kind.name!r} of line {kind.line} ({job.sizes(kind)})" for kind, count in kinds)
 
 
 def _refuse_crates(job: Job, rooms: list[Room]) -> None:
-    for kind in job.kinds:
-        if kind.count and not any(turn.fits(room) for turn in kind.turns for room in rooms):
-            raise NoRoom(f"{_crate(job, kind)} fits into no container, however the list lets it be turned")
+    """Each crate fits into some container."""
+    over = [
+        (kind, kind.count) for kind in job.kinds
+        if kind.count and not any(turn.fits(room) for turn in kind.turns for room in rooms)]
+    if over:
+        raise NoRoom(f"no container is large enough, however the list lets crates be turned, for {_counted(job, over)}")
 
 
 def _refuse_customers(job: Job, rooms: list[Room]) -> None:
@@ -25,11 +30,13 @@ def _refuse_customers(job: Job, rooms: list[Room]) -> None:
     volumes: dict[str, int] = {}
     for kind in job.kinds:
         volumes[kind.customer] = volumes.get(kind.customer, 0) + kind.volume * kind.count
-    for customer, volume in volumes.items():
-        if customer and volume > most:
-            raise NoRoom(
-                f"the crates of customer {customer!r} are to be kept together, and have a volume of {job.told(volume, 3)}; "
-                f"the greatest container has {job.told(most, 3)}")
+    over = [
+        f"those of customer {customer!r} {job.volume(volume)}"
+        for customer, volume in volumes.items() if customer and volume > most]
+    if over:
+        raise NoRoom(
+            f"the greatest container has a volume of {job.volume(most)}, and crates that are to be kept together have more: "
+            f"{', '.join(over)}")
 
 
 def refuse_misfits(job: Job) -> None:
@@ -39,8 +46,7 @@ def refuse_misfits(job: Job) -> None:
     crates = sum(kind.volume * kind.count for kind in job.kinds)
     volume = sum(it.room.volume * it.count for it in job.containers)
     if crates > volume:
-        inside, needed = job.told(volume, 3), job.told(crates, 3)
-        raise NoRoom(f"the containers are full: they have a volume of {inside}, and the crates {needed}")
+        raise NoRoom(f"the containers are full: they have a volume of {job.volume(volume)}, and the crates {job.volume(crates)}")
     if job.together:
         _refuse_customers(job, rooms)
 
@@ -51,9 +57,9 @@ def refuse_left(load: Load) -> None:
     over = [(kind, count) for kind, count in zip(job.kinds, load.left) if count]
     if not over:
         return
-    kind, count = max(over, key=lambda it: it[0].volume)
     crates = f"{sum(count for _, count in over)} of {sum(kind.count for kind in job.kinds)} crates"
-    if job.together and kind.customer and len(load.containers) < sum(it.count for it in job.containers):
-        customer = repr(kind.customer)
-        raise NoRoom(f"{crates} are left over: those of customer {customer} do not all fit into one container that is free")
-    raise NoRoom(f"the containers are full: {crates} are left over, {count} of them {_crate(job, kind)}")
+    customers = dict.fromkeys(repr(kind.customer) for kind, _ in over if kind.customer)
+    left = f"{crates} are left over: {_counted(job, over)}"
+    if job.together and customers and len(load.containers) < sum(it.count for it in job.containers):
+        raise NoRoom(f"no container that is free takes all crates of customer {' or of '.join(customers)}; {left}")
+    raise NoRoom(f"the containers are full: {left}")

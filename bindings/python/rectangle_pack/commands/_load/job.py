@@ -113,6 +113,14 @@ class Job:
         whole, part = digits[:len(digits) - decimals], digits[len(digits) - decimals:].rstrip("0")
         return f"{whole}.{part}" if part else whole
 
+    def volume(self, size: int) -> str:
+        """A volume with its unit: 729 cubic cm"""
+        return f"{self.told(size, 3)} cubic {self.unit or 'units'}"
+
+    def sizes(self, kind: Kind) -> str:
+        """Length, width and height of a crate: 120 x 80 x 105 cm"""
+        return " ".join(filter(None, (" x ".join(map(self.told, kind.sizes)), self.unit)))
+
 
 class Standing(NamedTuple):
     """A crate that stands in a container: its corner with the least x, y and z, and how it is turned."""

@@ -13,7 +13,7 @@ from .._scene import Step as SceneStep
 from .job import Job
 from .report import LoadedContainer, Report, Step
 
-__all__ = ["as_csv", "as_json", "as_text", "scene_of"]
+__all__ = ["AXES", "HEAD", "as_csv", "as_json", "as_text", "cells", "counted", "percent", "scene_of", "stands_on", "table"]
 
 HEAD = ("step", "crate", "customer", "x", "y", "z", "wide", "high", "long", "down", "on")
 
@@ -26,7 +26,7 @@ AXES = "x from the right wall, as one looks in at the door; y up from the floor;
 MOST_NAMED = 4
 
 
-def _percent(part: Fraction) -> str:
+def percent(part: Fraction) -> str:
     """Percent with one decimal, rounded down: what is not whole is not said to be."""
     tenths = part.numerator * 1000 // part.denominator
     return f"{tenths // 10}.{tenths % 10}".removesuffix(".0")
@@ -42,12 +42,12 @@ def _places(step: Step) -> dict[str, int]:
     return {"x": it.x, "y": it.y, "z": it.z, "wide": it.turn.wide, "high": it.turn.high, "long": it.turn.long}
 
 
-def _cells(job: Job, step: Step, on: str) -> tuple[str, ...]:
+def cells(job: Job, step: Step, on: str) -> tuple[str, ...]:
     kind = step.crate.kind
     return (str(step.number), kind.name, kind.customer, *map(job.told, _places(step).values()), step.crate.turn.down, on)
 
 
-def _table(rows: Sequence[Sequence[str]]) -> list[str]:
+def table(rows: Sequence[Sequence[str]]) -> list[str]:
     """The lines of a table whose first row is its head."""
     widths = [max(map(len, column)) for column in zip(*rows)]
     is_word = [name in WORDS for name in rows[0]]
@@ -56,22 +56,22 @@ def _table(rows: Sequence[Sequence[str]]) -> list[str]:
         for row in rows]
 
 
-def _counted(count: int, what: str) -> str:
+def counted(count: int, what: str) -> str:
     return f"{count} {what}" if count == 1 else f"{count} {what}s"
 
 
-def _on(step: Step) -> str:
+def stands_on(step: Step) -> str:
     """What a crate stands on, in short."""
     if not step.on:
         return "floor"
-    return " ".join(map(str, step.on)) if len(step.on) <= MOST_NAMED else _counted(len(step.on), "crate")
+    return " ".join(map(str, step.on)) if len(step.on) <= MOST_NAMED else counted(len(step.on), "crate")
 
 
 def _text_of(job: Job, it: LoadedContainer) -> str:
     wide, high, long = map(job.told, it.container.room)
-    head = (f"{it.name}: {wide} wide, {high} high, {long} long; {_counted(len(it.steps), 'crate')}, "
-            f"{_percent(it.filled)} % filled, {job.told(it.length)} of the length in use")
-    return "\n".join([head, "", *_table([HEAD, *(_cells(job, step, _on(step)) for step in it.steps)])])
+    head = (f"{it.name}: {wide} wide, {high} high, {long} long; {counted(len(it.steps), 'crate')}, "
+            f"{percent(it.filled)} % filled, {job.told(it.length)} of the length in use")
+    return "\n".join([head, "", *table([HEAD, *(cells(job, step, stands_on(step)) for step in it.steps)])])
 
 
 def as_text(report: Report) -> str:
@@ -79,8 +79,8 @@ def as_text(report: Report) -> str:
     job = report.job
     costs = [f"cost {report.cost:f}"] if job.has_costs else []
     sums = [
-        _counted(len(report.containers), "container"), *costs, _counted(report.crates, "crate"),
-        f"{_percent(report.filled)} % filled"]
+        counted(len(report.containers), "container"), *costs, counted(report.crates, "crate"),
+        f"{percent(report.filled)} % filled"]
     unit = f", in {job.unit}" if job.unit else ""
     return "\n\n".join([AXES + unit, *(_text_of(job, it) for it in report.containers), ", ".join(sums)])
 
@@ -92,7 +92,7 @@ def as_csv(report: Report) -> str:
     writer.writerow(("container", *HEAD))
     for it in report.containers:
         for step in it.steps:
-            writer.writerow((it.name, *_cells(report.job, step, " ".join(map(str, step.on)) or "floor")))
+            writer.writerow((it.name, *cells(report.job, step, " ".join(map(str, step.on)) or "floor")))
     return text.getvalue()
 
 
@@ -108,7 +108,7 @@ def _json_container(job: Job, it: LoadedContainer) -> dict[str, Any]:
     wide, high, long = (_number(job.told(side)) for side in it.container.room)
     return {
         "name": it.name, "kind": it.container.name, "wide": wide, "high": high, "long": long,
-        "cost": _number(f"{it.container.cost:f}") if job.has_costs else None, "filled": _number(_percent(it.filled)),
+        "cost": _number(f"{it.container.cost:f}") if job.has_costs else None, "filled": _number(percent(it.filled)),
         "length_in_use": _number(job.told(it.length)), "steps": [_json_step(job, step) for step in it.steps]}
 
 
@@ -119,7 +119,7 @@ def as_json(report: Report) -> dict[str, Any]:
     return {
         "unit": job.unit, "together": job.together, "apart": [list(pair) for pair in apart],
         "cost": _number(f"{report.cost:f}") if job.has_costs else None, "crates": report.crates,
-        "filled": _number(_percent(report.filled)), "containers": [_json_container(job, it) for it in report.containers]}
+        "filled": _number(percent(report.filled)), "containers": [_json_container(job, it) for it in report.containers]}
 
 
 def _cell_unit(job: Job) -> str:
@@ -142,7 +142,7 @@ def scene_of(report: Report, title: str) -> Scene:
             item = Item(number, crate.kind.name, it.name, corner, crate.turn[:3], crate.kind.customer, note)
             steps.append(SceneStep(text, [item]))
     facts = [
-        ("containers", str(len(report.containers))), ("crates", str(report.crates)), ("filled", f"{_percent(report.filled)} %"),
+        ("containers", str(len(report.containers))), ("crates", str(report.crates)), ("filled", f"{percent(report.filled)} %"),
         *([("cost", f"{report.cost:f}")] if job.has_costs else [])]
     rooms = [Room(it.name, it.container.room) for it in report.containers]
     return Scene(title, rooms, steps, unit=_cell_unit(job), facts=facts)

@@ -140,7 +140,7 @@ def _said(pairs: Sequence[str], customers: set[str]) -> list[tuple[str, str]]:
 def _listed(path: Path, customers: set[str]) -> list[tuple[str, str]]:
     """The pairs of customers in a table. It may be one for all days, so that some of its customers have no crates now."""
     listed = []
-    for row in read_table(path, ("customer", "other")):
+    for row in read_table(path, ("customer", "other"), passes_over=True):
         names = _name(row.text("customer")), _name(row.text("other"))
         if names[0] == names[1]:
             raise row.wrong(f"{names[0]!r} cannot be apart from itself")
@@ -165,8 +165,9 @@ def read_job(
     together: bool = False, unit: str = "",
 ) -> Job:
     """What is to be loaded, as tables and words say it."""
-    crates = _lines(read_table(packing_list, ("name", *SIDES), ("count", "customer", "down", "stackable")))
-    rooms = _lines(read_table(container_list, ("name", *SIDES), ("count", "cost")))
+    optional = ("count", "customer", "down", "stackable")
+    crates = _lines(read_table(packing_list, ("name", *SIDES), optional, passes_over=True))
+    rooms = _lines(read_table(container_list, ("name", *SIDES), ("count", "cost"), passes_over=True))
     has_costs = any(line.row.text("cost", "") for line in rooms)
     decimals = max((_decimals(size) for line in (*crates, *rooms) for size in line.sizes), default=0)
     kinds = _kinds(crates, packing_list, decimals)
