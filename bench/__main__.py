@@ -10,6 +10,7 @@ import atlas
 import bounds
 import checks
 import fill
+import in_python
 import plans
 import searches
 import speed
@@ -19,7 +20,7 @@ ALL = (
     speed.packings, speed.others, speed.what_fits, speed.from_c, speed.excluded, speed.given_back, speed.sweeps, plans.plans, checks.checks,
     atlas.atlas, searches.searches, searches.in_containers, fill.fill, bounds.bounds, bounds.bound_times,
 )
-MORE = (fill.squares, fill.pages, fill.containers, fill.best)
+MORE = (fill.squares, fill.pages, fill.containers, fill.best, in_python.in_python)
 TABLES = {it.__name__: it for it in (*ALL, *MORE)}
 
 
