@@ -2,6 +2,7 @@
 """python3 -m unittest discover bindings/python"""
 import dataclasses
 import doctest
+import importlib
 import itertools
 import os
 import tempfile
@@ -303,8 +304,10 @@ def leave_room(test):
 
 
 def load_tests(loader, tests, pattern):
-    for module in (rectangle_pack, rectangle_pack._pack, rectangle_pack._session):
-        tests.addTests(doctest.DocTestSuite(module, setUp=enter_room, tearDown=leave_room))
+    public = {name: getattr(rectangle_pack, name) for name in rectangle_pack.__all__}
+    for name in ("", "._pack", "._session", "._bins", "._reading", "._placing"):
+        module = importlib.import_module(f"rectangle_pack{name}")
+        tests.addTests(doctest.DocTestSuite(module, extraglobs=public, setUp=enter_room, tearDown=leave_room))
     return tests
 
 
