@@ -22,12 +22,15 @@ def number(value: int, what: str, most: int = MOST) -> int:
     return value
 
 
-def check_row(kind: str, name: Hashable, fields: Sequence[str], row: Iterable[int]) -> None:
+def check_row(kind: str, name: Hashable, fields: Sequence[str], row: Sequence[int]) -> None:
     """Refuses a row with a number that 32 bits do not hold: box 'hat': width -1 is not a number from 0 to 4294967295"""
-    for field, value in zip(fields, row):
-        # The text is made only where it may be needed.
+    for value in row:
         if type(value) is not int or not 0 <= value <= MOST:
-            number(value, f"{kind} {name!r}: {field}")
+            break
+    else:
+        return
+    for field, value in zip(fields, row):
+        number(value, f"{kind} {name!r}: {field}")
 
 
 def check_rows(kind: str, names: Iterable[Hashable], fields: Sequence[str], rows: Sequence[Sequence[int]]) -> None:

@@ -44,7 +44,9 @@ class Placing(Reading[BinName]):
             # A call that comes in between, as of a finalizer, takes another one.
             it = self._one_boxes.pop() if self._one_boxes else _OneBox()
             it.box.width, it.box.height, it.box.depth = size
-            self._call("pack_collection", it.collection, asked, it.place, 1, it.chosen)
+            self._check_open()
+            _library.check(_library.call(
+                "session_pack_collection", self._handle, it.collection, asked, it.place, 1, it.chosen))
             placed, chosen = self._stands(name, size, it.place), it.chosen.value
             self._one_boxes.append(it)
         return Packing(HEURISTICS[chosen], (placed,))
@@ -107,8 +109,9 @@ class Placing(Reading[BinName]):
         Raises UnknownPlacement or OutOfMemory."""
         checked(number, "placement", MOST_OF_64)
         with self._lock:
+            self._check_open()
             try:
-                self._call("release", number)
+                _library.check(_library.call("session_release", self._handle, number))
             except UnknownPlacement:
                 raise UnknownPlacement(number) from None
             del self._boxes[number]

@@ -36,7 +36,7 @@ class Rows(unittest.TestCase):
 class OneBox(unittest.TestCase):
     def test_a_box_that_is_packed_alone_stands_as_it_does_with_others(self):
         # The second call takes the way of many boxes, as it names a group.
-        one, other = Session([Bin(20, 20, 9)]), Session([Bin(20, 20, 9)])
+        one, other = Session([Bin(40, 40, 9)]), Session([Bin(40, 40, 9)])
         with one, other:
             r = random.Random(9)
             for name in range(60):
@@ -53,7 +53,7 @@ class OneBox(unittest.TestCase):
             self.assertEqual(one.free_sections(0), other.free_sections(0))
             self.assertEqual(one._boxes, other._boxes)
             for session in (one, other):
-                self.assertRaises(NotEnoughBinSpace, session.pack, {"large": Box(21, 1)})
+                self.assertRaises(NotEnoughBinSpace, session.pack, {"large": Box(41, 1)})
 
     def test_a_call_may_come_in_the_midst_of_another_one_of_its_thread(self):
         # As that of a finalizer, which runs where it likes: here it comes before the library is called.
