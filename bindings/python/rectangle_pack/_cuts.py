@@ -1,7 +1,7 @@
 """Cutting plans: the straight cuts that part a bin, as a list of steps and as a tree."""
 from __future__ import annotations
 
-from collections.abc import Sequence
+from collections.abc import Iterable, Sequence
 from dataclasses import dataclass
 from typing import Literal, NamedTuple, Union, get_args
 
@@ -33,6 +33,11 @@ class Leaf(NamedTuple):
 
 
 CutStep = Union[Cut, Leaf]
+
+
+def steps_of(rows: Iterable[tuple[int, ...]]) -> list[CutStep]:
+    """The steps of a plan, of the number of the axis and the place of each."""
+    return [Cut(AXES[axis], place) if axis < len(AXES) else Leaf() for axis, place in rows]
 
 
 # Trees are compared as objects, and print without their parts: a plan may be too deep for either.

@@ -3,11 +3,13 @@ from __future__ import annotations
 
 import ctypes
 from collections.abc import Iterable, Sequence
+from itertools import islice
 from typing import Any, Union
 
 from . import _library
-from ._cuts import AXES, Cut, CutStep, Leaf
+from ._cuts import CutStep, steps_of
 from ._errors import PackError
+from ._numbers import SIDES, check_rows, number
 from ._types import Bin, Placement, Section
 
 _Standing = Union[Section, Placement[Any, Any]]
@@ -32,21 +34,25 @@ class WrongBoxes(PackError, ValueError):
         return f"{self.text}: boxes[{self.first}] and boxes[{self.second}] share a cell"
 
 
-def _row(box: _Standing) -> tuple[int, ...]:
-    """The corner and the size, as C takes them."""
-    return tuple(map(_library.number, Section(*(box.section if isinstance(box, Placement) else box))))
+def _rows_of(boxes: Iterable[_Standing]) -> list[Section]:
+    """The corner and the size of each box."""
+    rows = [Section(*(it.section if isinstance(it, Placement) else it)) for it in boxes]
+    check_rows("box", range(len(rows)), Section._fields, rows)
+    return rows
 
 
-def _ask(size: _library.Size, rows: Sequence[tuple[int, ...]], wrong: _library.RpWrong) -> tuple[int, list[_library.RpCutStep]]:
+def _ask(size: Bin, rows: Sequence[Section], wrong: _library.RpWrong) -> tuple[int, list[CutStep]]:
     """The status, and the steps. A whole plan is made each time, so the first array has room for most plans: for each box there are
     seldom more than three free sections, so four leaves."""
     bin, boxes = _library.RpBin(*size), _library.listed(_library.RpSection, rows)
     count, status = ctypes.c_size_t(8 * (len(rows) + 1)), _library.SHORT_ARRAY
     while status == _library.SHORT_ARRAY:
         length = count.value
-        steps = _library.empty(_library.RpCutStep, length)
-        status = _library.call("straight_cuts", bin, boxes, len(rows), steps, length, count, wrong)
-    return status, [] if status else steps[:count.value]
+        room, first = _library.room_of(_library.RpCutStep, length)
+        status = _library.call("straight_cuts", bin, boxes, len(rows), first, length, count, wrong)
+    if status:
+        return status, []
+    return status, steps_of(islice(_library.row_of(_library.RpCutStep).iter_unpack(room), count.value))
 
 
 def straight_cuts(bin: Bin, boxes: Iterable[_Standing]) -> list[CutStep] | None:
@@ -63,12 +69,13 @@ def straight_cuts(bin: Bin, boxes: Iterable[_Standing]) -> list[CutStep] | None:
 
     Raises WrongBoxes, which is a ValueError, where a box is outside the bin, or two share a cell; OutOfMemory; and ValueError or
     TypeError where a size or a corner is not of numbers of 32 bits."""
-    size, rows = _library.size(*Bin(*bin)), [_row(box) for box in boxes]
-    wrong = _library.RpWrong()
+    size, rows, wrong = Bin(*bin), _rows_of(boxes), _library.RpWrong()
+    for field, side in zip(SIDES, size):
+        number(side, f"bin: {field}")
     status, steps = _ask(size, rows, wrong)
     if status == _WRONG_BOXES:
         raise WrongBoxes(wrong.first, None if wrong.kind == _OUTSIDE else wrong.second)
     if status == _library.NO_PLAN:
         return None
     _library.check(status)
-    return [Cut(AXES[it.axis], it.place) if it.axis < len(AXES) else Leaf() for it in steps]
+    return steps

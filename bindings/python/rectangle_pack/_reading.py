@@ -5,7 +5,7 @@ from typing import Any
 
 from . import _library
 from ._bins import Bins
-from ._cuts import AXES, Cut, CutStep, CutTree, Leaf, tree_of
+from ._cuts import CutStep, CutTree, steps_of, tree_of
 from ._errors import naming
 from ._handle import alone
 from ._types import BinName, Outstanding, Section, Stats
@@ -66,7 +66,7 @@ class Reading(Bins[BinName]):
             if status == _library.NO_PLAN:
                 return None
             _library.check(status)
-        return [Cut(AXES[axis], place) if axis < len(AXES) else Leaf() for axis, place in steps]
+        return steps_of(steps)
 
     @alone
     def cut_tree(self, bin: BinName) -> CutTree | None:
