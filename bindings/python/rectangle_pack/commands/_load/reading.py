@@ -11,7 +11,7 @@ from fractions import Fraction
 from pathlib import Path
 
 from .._common import Wrong
-from .._tables import MOST, Row, read_table
+from .._tables import MOST, Row, read_known
 from .job import FACES, Container, Job, Kind, Room, turns_of
 
 __all__ = ["MOST_CRATES", "read_job"]
@@ -140,7 +140,7 @@ def _said(pairs: Sequence[str], customers: set[str]) -> list[tuple[str, str]]:
 def _listed(path: Path, customers: set[str]) -> list[tuple[str, str]]:
     """The pairs of customers in a table. It may be one for all days, so that some of its customers have no crates now."""
     listed = []
-    for row in read_table(path, ("customer", "other"), passes_over=True):
+    for row in read_known(path, ("customer", "other")):
         names = _name(row.text("customer")), _name(row.text("other"))
         if names[0] == names[1]:
             raise row.wrong(f"{names[0]!r} cannot be apart from itself")
@@ -166,8 +166,8 @@ def read_job(
 ) -> Job:
     """What is to be loaded, as tables and words say it."""
     optional = ("count", "customer", "down", "stackable")
-    crates = _lines(read_table(packing_list, ("name", *SIDES), optional, passes_over=True))
-    rooms = _lines(read_table(container_list, ("name", *SIDES), ("count", "cost"), passes_over=True))
+    crates = _lines(read_known(packing_list, ("name", *SIDES), optional))
+    rooms = _lines(read_known(container_list, ("name", *SIDES), ("count", "cost")))
     has_costs = any(line.row.text("cost", "") for line in rooms)
     decimals = max((_decimals(size) for line in (*crates, *rooms) for size in line.sizes), default=0)
     kinds = _kinds(crates, packing_list, decimals)
