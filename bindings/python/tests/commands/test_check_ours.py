@@ -102,6 +102,11 @@ class OurJson(CheckCase):
         text = '"side #1" and "side #2" are not 4 apart on sheet "1: birch": (10, 10) 90x200 and (10, 213.2) 90x200'
         self.assert_fault(path, text, "--padding", 4)
 
+    def test_offcuts_of_one_name(self) -> None:
+        """Sheets that are cut alike have them. Panels differ by their names."""
+        offcut = part("offcut", "birch 1-1", 103.2, 10, 886.8, 480)
+        self.assert_sound(self.file("a.json", changed(CUT, "sheets 1 offcuts", [offcut])), "5 boxes on 2 sheets")
+
     def test_load(self) -> None:
         together = {**LOAD, "together": True}
         self.judge(LOAD, "5 boxes in 2 containers", {

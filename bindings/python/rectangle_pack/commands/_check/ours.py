@@ -36,8 +36,9 @@ def cut(root: Value) -> Told:
         width, height = it.numbers("width", "height")
         bins[index] = Bin(f"{it['number'].name()}: {it['name'].text()}", (width, height, ONE))
         for part in (*it["panels"].items(), *it["offcuts"].items()):
-            name = part["name"].text()
-            claims.append(Claim(name, (part["role"].text(), name), index, *_flat(part)))
+            name, role = part["name"].text(), part["role"].text()
+            # Offcuts of sheets that are cut alike have one name.
+            claims.append(Claim(name, (role, name, index if role == "offcut" else None), index, *_flat(part)))
     return Told.of("sheet", Layout(bins, claims, root["kerf"].number()))
 
 
