@@ -2,21 +2,26 @@
 from __future__ import annotations
 
 import argparse
-import re
+import sys
+from collections.abc import Sequence
 from pathlib import Path
 from typing import Any, get_args
 
 from .. import Heuristic
-from ._common import DONE, Wrong, print_json, refuse_over, write
-from ._cut.draw import page_of
-from ._cut.pdf import cairo, pdf_of
-from ._cut.read import read_job, sizes_of
-from ._cut.result import Result, as_json, offcuts_table
-from ._cut.saw import sawn
+from ._common import DONE, STOPPED, NoRoom, Wrong, print_json, refuse_over
+from ._cut.alike import alike_of
+from ._cut.files import earlier, files_of, write_all
+from ._cut.job import Job, Work
+from ._cut.packing import Filled
+from ._cut.pdf import cairo
+from ._cut.read import Tables, read_work, sizes_of
+from ._cut.result import Result, Results
 from ._cut.scene import scene_of
 from ._cut.search import search
-from ._cut.svg import svg_of
-from ._cut.text import plan_text, sums_text
+from ._cut.text import sums_text
+from ._cut.unit import UNITS
+from ._cut.values import as_json
+from ._cut.watch import Watch
 
 __all__ = ["add_to", "run"]
 
@@ -36,22 +41,29 @@ tables (CSV; the first line names the columns, in any order; separated by comma,
   --offcuts name,count,width,height,cost      name, count (1) and cost (0) may be left out;
               birch 18 1-2,1,700,396.8,0      offcuts.csv of an earlier run is such a table
 
-written to the folder, for sheets 1, 2 and so on:
-  sheet-1.txt   the cuts as numbered steps     plan.pdf     the drawings, a page of A4 a sheet
+  count may be called qty, quantity, pieces, pcs or amount; name: part, panel, sheet, label or description; cost: price.
+  Where the sides are called length and width, the length lies along x. Other columns are passed over.
+
+  All tables may have a column material, one thickness, or both. Then panels are cut from sheets of the same material and
+  thickness alone, each has plans of its own, and the summary has each and their sum.
+
+written to the folder, for sheets 1, 2 and so on; plans of materials to folders in it, as material-birch-18:
+  sheet-1.txt   the cuts as numbered steps     plan.pdf     the drawings, a page of A4 a plan
   sheet-1.svg   the drawing, to scale          offcuts.csv  what a later run can take as --offcuts: also those not used
+                                               buy.csv      the sheets to buy, and what they cost
+Sheets with the same panels are cut alike, and have one plan: sheet-1-to-3.txt. A new offcut is named by the job, the material
+or else the name of its sheet, the number of the sheet, and its own: sideboard birch 18 1-2.
 """
 
 EPILOG = """\
+On a terminal a line says how far the search is; else there is one each half minute. Ctrl-C ends the search, and the best plan
+so far is written.
+
 example:
   python3 -m rectangle_pack cut panels.csv --stock sheets.csv --kerf 3.2 --trim 10 --keep 300x200 --out plan
 
 exit status: 0 done, 1 not all panels fit, 2 the words or a file are wrong, 3 out of memory, 130 interrupted
 """
-
-OFFCUTS = "offcuts.csv"
-
-# What a run writes to its folder.
-OURS = re.compile(r"sheet-[0-9]+\.(txt|svg)|plan\.pdf|offcuts\.csv")
 
 
 def add_to(commands: Any) -> None:
@@ -60,29 +72,46 @@ def add_to(commands: Any) -> None:
         "cut", help="plans for a panel saw, of a cutting list", description=DESCRIPTION, epilog=EPILOG,
         formatter_class=argparse.RawDescriptionHelpFormatter)
     it.add_argument("panels", type=Path, metavar="PANELS", help="the cutting list")
+    _add_given(it)
+    _add_written(it)
+    it.set_defaults(run=run)
+
+
+def _add_given(it: argparse.ArgumentParser) -> None:
+    """The options that say what is cut, and how."""
     it.add_argument("--stock", type=Path, metavar="FILE", help="the sheets that can be bought, with their cost")
     it.add_argument(
-        "--offcuts", type=Path, metavar="FILE", action="append", default=[], help="offcuts that are there already; may be said again")
-    it.add_argument("--out", type=Path, metavar="FOLDER", required=True, help="where the plans go")
-    it.add_argument("--replace", action="store_true",
-                    help="the plans of an earlier run in the folder go; a folder with such plans is refused without it")
-    it.add_argument("--kerf", metavar="MM", required=True, help="the width that the blade takes; 0 where it takes none")
-    it.add_argument("--trim", metavar="MM", default="0", help="what goes off each edge of a sheet first, with the kerf (0)")
+        "--offcuts", type=Path, metavar="FILE", action="append", default=[],
+        help="offcuts that are there already; may be said again")
+    it.add_argument("--job", metavar="NAME", help="the name of the job, in plans and in the names of offcuts (that of PANELS)")
+    it.add_argument("--unit", choices=tuple(UNITS), default="mm",
+                    help="in what lengths are read and written (mm). Inches may have fractions to 1/64, as 24 3/4, 24-3/4, "
+                    "3/4 or 24.75, and are written so")
+    it.add_argument("--kerf", metavar="LENGTH", required=True, help="the width that the blade takes; 0 where it takes none")
+    it.add_argument("--trim", metavar="LENGTH", default="0",
+                    help="what goes off each edge of a sheet first, with the kerf (0)")
     it.add_argument("--trim-offcuts", action="store_true", help="offcuts are trimmed too")
-    it.add_argument("--keep", metavar="WxH", default="200x200",
-                    help="the smallest offcut worth keeping, either way round (200x200)")
+    it.add_argument("--keep", metavar="WxH",
+                    help="the smallest offcut worth keeping, either way round (200x200, in inches 8x8)")
     it.add_argument("--heuristic", choices=("best", *HEURISTICS), default="best", metavar="NAME",
                     help=f"what goes first, by name, or the best of all (best): {', '.join(HEURISTICS)}")
     it.add_argument("--tries", type=int, metavar="N", default=200,
                     help="how many turnings and sets of sheets are tried (200): more take longer, and may cost less")
+
+
+def _add_written(it: argparse.ArgumentParser) -> None:
+    """The options that say what is written."""
+    it.add_argument("--out", type=Path, metavar="FOLDER", required=True, help="where the plans go")
+    it.add_argument("--replace", action="store_true",
+                    help="the plans of an earlier run in the folder go; a folder with such plans is refused without it")
     it.add_argument("--no-pdf", action="store_true", help="without plan.pdf, which needs pycairo")
     it.add_argument("--json", action="store_true",
-                    help="prints all that was decided as one JSON object: sums, used, offcuts_left, sheets (each with panels, "
-                    "offcuts and cuts), files. Lengths are in mm, areas in square mm; at of a cut is counted from its part's "
-                    "edge, off is what a trim takes off, blade (its near and far side) and all else are counted from the left "
+                    help="prints all that was decided as one JSON object: job, sums, materials (the sums of each), used, "
+                    "offcuts_left, sheets (each with panels, offcuts and cuts; plan is the number of the sheet whose plan it "
+                    "has), files. Lengths are in the unit, areas in its square; at of a cut is counted from its part's edge, "
+                    "off is what a trim takes off, blade (its near and far side) and all else are counted from the left "
                     "lower corner of the sheet; line counts the head of a table as line 1")
     it.add_argument("--page", type=Path, metavar="FILE", help="writes an HTML page on which to step through the cuts")
-    it.set_defaults(run=run)
 
 
 def _check(options: argparse.Namespace) -> None:
@@ -96,61 +125,65 @@ def _check(options: argparse.Namespace) -> None:
     if options.out.exists() and not options.out.is_dir():
         raise Wrong("is not a folder", options.out)
     if not options.replace:
-        for path in _earlier(options.out):
+        for path in earlier(options.out):
             raise Wrong("is there already, of an earlier run: --replace lets it go", path)
 
 
-def _earlier(folder: Path) -> list[Path]:
-    """The plans of an earlier run."""
+def _work(options: argparse.Namespace) -> Work:
+    """What the tables say."""
+    unit = UNITS[options.unit]
+    sizes = sizes_of(unit, options.kerf, options.trim, options.keep, options.trim_offcuts)
+    name = options.panels.stem if options.job is None else options.job
+    work = read_work(name, Tables(options.panels, options.stock, options.offcuts), sizes)
+    if work.note:
+        print(work.note, file=sys.stderr)
+    return work
+
+
+def _searched(job: Job, options: argparse.Namespace, watch: Watch) -> tuple[Sequence[Filled], bool]:
+    """The sheets of a job, and whether the user ended the search."""
+    heuristics = HEURISTICS if options.heuristic == "best" else (options.heuristic,)
     try:
-        return sorted(path for path in folder.iterdir() if OURS.fullmatch(path.name)) if folder.is_dir() else []
-    except OSError as why:
-        raise Wrong(f"cannot be read: {why.strerror}", folder) from None
+        return search(job, heuristics, options.tries, watch), False
+    except KeyboardInterrupt:
+        return watch.best, True
+    except NoRoom as why:
+        raise NoRoom(f"{job.of}: {why}" if job.of else str(why)) from None
+    finally:
+        watch.end()
 
 
-def _files(result: Result, title: str, has_pdf: bool) -> dict[str, bytes | str]:
-    """What is written, by name."""
-    files: dict[str, bytes | str] = {}
-    pages = [page_of(result, plan) for plan in result.plans]
-    for plan, page in zip(result.plans, pages):
-        files[f"sheet-{plan.number}.txt"] = plan_text(result, plan)
-        files[f"sheet-{plan.number}.svg"] = svg_of(page)
-    if has_pdf:
-        files["plan.pdf"] = pdf_of(pages, title)
-    files[OFFCUTS] = offcuts_table(result)
-    return files
-
-
-def _write(folder: Path, files: dict[str, bytes | str]) -> None:
-    """Writes the files. Plans of an earlier run go first, so that none stands beside a new one, whatever happens then; but the
-    list of offcuts is there until the new one takes its place."""
-    for path in _earlier(folder):
-        if path.name != OFFCUTS:
-            try:
-                path.unlink()
-            except OSError as why:
-                raise Wrong(f"cannot be removed: {why.strerror}", path) from None
-    for name, content in files.items():
-        write(folder / name, content)
+def _plan(work: Work, options: argparse.Namespace) -> tuple[Results, str]:
+    """Plans one job after the other, until the user ends that; and a line that says so. Those without a plan have no sheets."""
+    results, stopped = list[Result](), ""
+    for job in work.jobs:
+        filled: Sequence[Filled] = ()
+        if not stopped:
+            watch = Watch(job, options.tries)
+            filled, was_stopped = _searched(job, options, watch)
+            stopped = f"stopped after {watch.used} of {options.tries} tries: the plan is the best so far" if was_stopped else ""
+        results.append(Result(job, alike_of(job, filled)))
+    if stopped and not any(it.alike for it in results):
+        raise KeyboardInterrupt
+    without = ", ".join(it.job.of for it in results if not it.alike)
+    return Results(work, [*results, *map(Result, work.idle)]), stopped + (f"; no plan of {without}" if without else "")
 
 
 def run(options: argparse.Namespace) -> int:
     """Plans, draws and writes."""
     _check(options)
     refuse_over(options.page, options.panels, options.stock, *options.offcuts)
-    sizes = sizes_of(options.kerf, options.trim, options.keep, options.trim_offcuts)
-    job = read_job(options.panels, options.stock, options.offcuts, sizes)
-    heuristics = HEURISTICS if options.heuristic == "best" else (options.heuristic,)
-    filled = search(job, heuristics, options.tries)
-    result = Result(job, [sawn(job, sheet, number) for number, sheet in enumerate(filled, 1)])
-    files = _files(result, options.panels.stem, not options.no_pdf)
-    _write(options.out, files)
+    results, stopped = _plan(_work(options), options)
+    files = files_of(results, not options.no_pdf)
+    write_all(options.out, files)
     if options.page:
         from .view import write_page
-        write_page(scene_of(result, options.panels.stem), options.page)
+        write_page(scene_of(results), options.page)
     if options.json:
-        print_json({**as_json(result), "files": [str(options.out / name) for name in files]})
+        print_json({**as_json(results), "files": [str(options.out / name) for name in files]})
     else:
-        print(sums_text(result))
+        print(sums_text(results))
         print(f"{len(files)} files written to {options.out}")
-    return DONE
+    if stopped:
+        print(stopped, file=sys.stderr)
+    return STOPPED if stopped else DONE

@@ -7,18 +7,66 @@ import re
 import unittest
 import xml.etree.ElementTree as ElementTree
 from collections.abc import Iterable, Iterator, Sequence
+from dataclasses import dataclass
 from fractions import Fraction
 from pathlib import Path
 from typing import Any, NamedTuple
 
 from .parsed import Parsed
 
-__all__ = ["NUMBER", "PAGE", "Piece", "Step", "check_page", "data_of", "pieces_in", "step_in", "steps_in"]
+__all__ = [
+    "NUMBER", "PAGE", "Head", "Piece", "Step", "check_page", "data_of", "exact", "head_of", "pieces_in", "step_in", "steps_in"]
 
-NUMBER = r"(\d+(?:\.\d+)?)"
+# In inches there may be fractions: 24 3/4
+NUMBER = r"(\d+(?:\.\d+)?(?: \d+/\d+)?|\d+/\d+)"
 SVG = "{http://www.w3.org/2000/svg}"
 # What a text and a page write between two measures, and between what is done and what that leaves.
 TEXT, PAGE = ("x", "->"), ("×", "→")
+
+
+HEADING = re.compile(rf"(Sheets?) (\d+)(?: to (\d+))? of (\d+): (offcut )?(.*), {NUMBER} x {NUMBER} (mm|in)")
+
+
+def exact(number: str) -> Fraction:
+    """A number as it is written: 24 3/4"""
+    return sum(map(Fraction, number.split()), Fraction(0))
+
+
+@dataclass(frozen=True)
+class Head:
+    """What the first lines of a plan say: which sheets it is of, and how many there are in all."""
+
+    first: int
+    count: int
+    all: int
+    name: str
+    size: tuple[Fraction, Fraction]
+    unit: str
+    job: str
+    material: str
+    kerf: str
+
+    @property
+    def room(self) -> str:
+        """What a page calls the sheets."""
+        sheets = f"sheet {self.first}" if self.count == 1 else f"sheets {self.first} to {self.first + self.count - 1}"
+        return f"{self.material}, {sheets}: {self.name}" if self.material else f"{sheets}: {self.name}"
+
+
+def head_of(lines: Sequence[str]) -> Head:
+    """The head of a text. Of several sheets the second line says how many they are."""
+    it = HEADING.fullmatch(lines[0])
+    assert it, lines[0]
+    count = int(it[3]) - int(it[2]) + 1 if it[3] else 1
+    assert (it[1] == "Sheets") == (count > 1)
+    if count > 1:
+        assert lines[1] == f"{count} times this sheet"
+        lines = lines[1:]
+    job, _, material = lines[1].removeprefix("Job ").partition(", ")
+    assert lines[1].startswith("Job ") and lines[2].startswith("Kerf ")
+    size = exact(it[7]), exact(it[8])
+    kerf = lines[2].removeprefix("Kerf ").split(",")[0]
+    return Head(int(it[2]), count, int(it[4]), it[6], size, it[9], job, material, kerf)
 
 
 class Piece(NamedTuple):
@@ -87,17 +135,19 @@ def _step_of(it: Any) -> Step:
 def check_page(case: unittest.TestCase, page: Path, folder: Path) -> None:
     """A page and the drawings say each step as the texts beside them do, and draw it where it says."""
     [scene] = data_of(page)
-    case.assertEqual(len(scene["rooms"]), len(list(folder.glob("sheet-*.txt"))))
-    for number, room in enumerate(scene["rooms"], 1):
-        lines = (folder / f"sheet-{number}.txt").read_text(encoding="utf-8").splitlines()
-        case.assertTrue(lines[0].startswith(f"Sheet {number} of "))
+    paths = sorted(folder.glob("**/sheet-*.txt"))
+    by_room = {head_of(path.read_text(encoding="utf-8").splitlines()).room: path for path in paths}
+    case.assertEqual((len(by_room), {*by_room}), (len(paths), {room["name"] for room in scene["rooms"]}))
+    for room in scene["rooms"]:
+        path = by_room[room["name"]]
+        lines = path.read_text(encoding="utf-8").splitlines()
         cuts, steps, unit = scene["cuts"][room["name"]], steps_in(lines), _unit_of(scene["unit"])
         case.assertEqual([_step_of(cut["step"]) for cut in cuts], steps)
         for cut in cuts:
-            case.assertEqual(f"Kerf {cut['step']['kerf']}", lines[1].split(",")[0])
+            case.assertEqual(cut["step"]["kerf"], head_of(lines).kerf)
             _check_place(case, cut, unit)
         _check_pieces(case, scene, room, cuts)
-        _check_drawing(case, ElementTree.parse(folder / f"sheet-{number}.svg").getroot(), steps)
+        _check_drawing(case, ElementTree.parse(path.with_suffix(".svg")).getroot(), steps)
 
 
 def _unit_of(unit: str) -> Fraction:
@@ -109,10 +159,10 @@ def _check_place(case: unittest.TestCase, cut: Any, unit: Fraction) -> None:
     """A cut is drawn where its step says."""
     step, axis = _step_of(cut["step"]), "xy".index(cut["step"]["axis"])
     sizes: list[Fraction] = [it * unit for it in cut["part"][3:5]]
-    case.assertEqual(sizes, [Fraction(step.piece.width), Fraction(step.piece.height)])
-    kerf, side = Fraction(cut["step"]["kerf"]), sizes[axis]
+    case.assertEqual(sizes, [exact(step.piece.width), exact(step.piece.height)])
+    kerf, side = exact(cut["step"]["kerf"]), sizes[axis]
     near, far = ((it - cut["part"][axis]) * unit for it in cut["blade"])
-    length = Fraction(step.length)
+    length = exact(step.length)
     if step.where in ("x", "y"):
         case.assertEqual((step.where, near, far), ("xy"[axis], length, length + kerf))
     elif step.where in ("left", "bottom"):
@@ -121,14 +171,15 @@ def _check_place(case: unittest.TestCase, cut: Any, unit: Fraction) -> None:
         case.assertEqual((near, far), (side - length, min(side - length + kerf, side)))
     case.assertEqual(step.where in ("x", "left", "right"), axis == 0)
     left = [it for it in (near, side - far) if it > 0]
-    case.assertEqual([Fraction((it.width, it.height)[axis]) for it in step.leaves], left)
+    case.assertEqual([exact((it.width, it.height)[axis]) for it in step.leaves], left)
     case.assertEqual({(it.height, it.width)[axis] for it in step.leaves}, {(step.piece.height, step.piece.width)[axis]})
 
 
 def _check_pieces(case: unittest.TestCase, scene: Any, room: Any, cuts: Sequence[Any]) -> None:
     """What a cut goes through is drawn where an earlier one left it, and a panel where it is in the end."""
     parts = {"A": [0, 0, 0, *room["size"]]}
-    panels = {it["name"]: it["at"] for step in scene["steps"] for it in step["placed"] if it["bin"] == room["name"]}
+    # On sheets that are cut alike several panels have one name.
+    panels = [(it["name"], it["at"]) for step in scene["steps"] for it in step["placed"] if it["bin"] == room["name"]]
     for cut in cuts:
         step, axis, part = _step_of(cut["step"]), "xy".index(cut["step"]["axis"]), cut["part"]
         case.assertEqual(parts.pop(step.piece.name), part)
@@ -141,9 +192,9 @@ def _check_pieces(case: unittest.TestCase, scene: Any, room: Any, cuts: Sequence
             if piece.role == "part":
                 parts[piece.name] = place
             elif piece.role == "panel":
-                case.assertEqual(panels.pop(piece.name), place)
+                panels.remove((piece.name, place))
     if cuts:
-        case.assertEqual((parts, panels), ({}, {}))
+        case.assertEqual((parts, panels), ({}, []))
 
 
 def _check_drawing(case: unittest.TestCase, root: ElementTree.Element, steps: Sequence[Step]) -> None:

@@ -70,13 +70,18 @@ class Drawings(Case):
         super().setUp()
         write_example(self.folder)
         self.words: list[object] = ["--stock", self.folder / "sheets.csv", "--offcuts", self.folder / "offcuts.csv"]
-        self.words += ["--kerf", "3.2", "--trim", 10, "--keep", "300x200", "--tries", 20, "--json"]
+        self.words += ["--job", "sideboard", "--kerf", "3.2", "--trim", 10, "--keep", "300x200", "--tries", 20, "--json"]
 
     def drawn(self, run: Run) -> list[tuple[Any, ElementTree.Element]]:
-        """The sheets, each with its drawing."""
+        """The sheets, each with its drawing. Of those that are cut alike there is the first."""
         self.assertEqual((run.status, run.err), (0, ""))
-        paths = [run.folder / f"sheet-{sheet['number']}.svg" for sheet in run.json["sheets"]]
-        return list(zip(run.json["sheets"], (ElementTree.parse(path).getroot() for path in paths)))
+        sheets, found = run.json["sheets"], []
+        for sheet in sheets:
+            if sheet["plan"] == sheet["number"]:
+                last = max(it["number"] for it in sheets if it["plan"] == sheet["plan"])
+                stem = f"sheet-{sheet['number']}" + (f"-to-{last}" if last > sheet["number"] else "")
+                found.append((sheet, ElementTree.parse(run.folder / f"{stem}.svg").getroot()))
+        return found
 
     def runs(self) -> Iterator[Run]:
         yield self.cut(self.folder / "panels.csv", *self.words, out="example")
@@ -95,11 +100,13 @@ class Drawings(Case):
     def check_scale(self, sheet: Any, root: ElementTree.Element) -> None:
         """Each panel and each offcut is drawn in its place, y upwards, in the scale that is written on the drawing."""
         [scale] = re.findall(r"scale 1:([0-9.]+),", "".join(root.itertext()))
-        drawn = {(it.findtext(f"{SVG}title") or "").split(", ")[0]: it for it in root.iter(f"{SVG}rect")}
+        drawn: dict[str, list[ElementTree.Element]] = {}
+        for it in root.iter(f"{SVG}rect"):
+            drawn.setdefault((it.findtext(f"{SVG}title") or "").split(", ")[0], []).append(it)
         # The sheet is the first rectangle with an outline.
         whole = next(it for it in root.iter(f"{SVG}rect") if it.get("stroke"))
         for part in (*sheet["panels"], *sheet["offcuts"]):
-            rect = drawn[f"{part['role']} {part['name']}"]
+            [rect] = drawn[f"{part['role']} {part['name']}"]
             top = sheet["height"] - part["y"] - part["height"]
             wanted = [part["x"], top, part["width"], part["height"]]
             found = [number(rect, "x") - number(whole, "x"), number(rect, "y") - number(whole, "y"),

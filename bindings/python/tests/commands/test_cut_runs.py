@@ -17,7 +17,7 @@ from fractions import Fraction
 from pathlib import Path
 from typing import Any
 
-from .cut_steps import NUMBER, Piece, Step, check_page, steps_in
+from .cut_steps import NUMBER, Piece, Step, check_page, exact, head_of, steps_in
 
 try:
     from rectangle_pack import commands
@@ -28,7 +28,6 @@ PYTHON = Path(__file__).resolve().parents[2]
 
 Size = tuple[Fraction, Fraction]
 
-HEADING = re.compile(rf"Sheet (\d+) of (\d+): (.*), {NUMBER} x {NUMBER} mm")
 UNCUT = re.compile(rf'Nothing is cut: the sheet is panel "(.*)" {NUMBER} x {NUMBER}( \(turned\))?')
 
 
@@ -46,10 +45,10 @@ class Run:
         """What was printed, its numbers exact."""
         return json.loads(self.out, parse_float=Fraction, parse_int=Fraction)
 
-    def sheets(self) -> list[str]:
-        """The plans, in the order of the sheets."""
-        paths = sorted(self.folder.glob("sheet-*.txt"), key=lambda path: int(path.stem[6:]))
-        return [path.read_text(encoding="utf-8") for path in paths]
+    def sheets(self, folder: str = ".") -> list[str]:
+        """The plans, in the order of the sheets; those of a material are in a folder of their own."""
+        texts = [path.read_text(encoding="utf-8") for path in (self.folder / folder).glob("sheet-*.txt")]
+        return sorted(texts, key=lambda text: head_of(text.splitlines()).first)
 
 
 def run_cut(folder: Path, *words: object) -> Run:
@@ -123,6 +122,8 @@ class Sawn:
 
     name: str
     size: Size
+    # How many sheets are cut so.
+    count: int = 1
     cuts: int = 0
     length: Fraction = Fraction(0)
     panels: list[tuple[str, Size, bool]] = field(default_factory=list)
@@ -139,7 +140,7 @@ def _split(size: Size, axis: str, near: Fraction, far: Fraction) -> list[Size]:
 
 def _blade(step: Step, size: Size, kerf: Fraction) -> tuple[str, Fraction, Fraction]:
     """The axis, and what the blade takes, from the part's left or lower edge."""
-    length = Fraction(step.length)
+    length = exact(step.length)
     if step.where in ("x", "y"):
         assert 0 < length < (size[0] if step.where == "x" else size[1]), "a cut beside the part"
         return step.where, length, length + kerf
@@ -151,14 +152,13 @@ def _blade(step: Step, size: Size, kerf: Fraction) -> tuple[str, Fraction, Fract
 
 
 def _size(piece: Piece) -> Size:
-    return Fraction(piece.width), Fraction(piece.height)
+    return exact(piece.width), exact(piece.height)
 
 
-def saw(text: str, kerf: Fraction, size: Size) -> Sawn:
-    """Saws a sheet of this size by its printed plan, and checks each number in it."""
-    heading = HEADING.fullmatch(text.splitlines()[0])
-    assert heading and (Fraction(heading.group(4)), Fraction(heading.group(5))) == size, "another sheet"
-    sawn, table = Sawn(heading.group(3), size), {"A": size}
+def saw(text: str, kerf: Fraction) -> Sawn:
+    """Saws a sheet by its printed plan, and checks each number in it."""
+    head = head_of(text.splitlines())
+    sawn, table = Sawn(head.name, head.size, head.count), {"A": head.size}
     steps = steps_in(text.splitlines())
     for number, step in enumerate(steps, 1):
         assert int(step.number) == number, "steps are not numbered in order"
@@ -186,25 +186,31 @@ def saw(text: str, kerf: Fraction, size: Size) -> Sawn:
     return sawn
 
 
-def saw_all(run: Run, kerf: object) -> list[Sawn]:
-    """Saws all sheets of a run: their sizes are those of the heading."""
-    sawn = []
-    for number, text in enumerate(run.sheets(), 1):
-        heading = HEADING.fullmatch(text.splitlines()[0])
-        assert heading and int(heading.group(1)) == number and int(heading.group(2)) == len(run.sheets())
-        size = Fraction(heading.group(4)), Fraction(heading.group(5))
-        sawn.append(saw(text, Fraction(str(kerf)), size))
+def saw_all(run: Run, kerf: object, folder: str = ".") -> list[Sawn]:
+    """Saws all sheets of a run: those that are cut alike once."""
+    sawn, texts, first = [], run.sheets(folder), 1
+    for text in texts:
+        head = head_of(text.splitlines())
+        assert head.first == first and Fraction(str(kerf)) == exact(head.kerf)
+        first += head.count
+        sawn.append(saw(text, exact(head.kerf)))
+    assert {head_of(text.splitlines()).all for text in texts} == {first - 1}
     return sawn
+
+
+def each(sawn: Sequence[Sawn]) -> list[Sawn]:
+    """All sheets, one by one."""
+    return [sheet for sheet in sawn for _ in range(sheet.count)]
 
 
 def check_panels(case: unittest.TestCase, rows: Sequence[dict[str, str]], sawn: Sequence[Sawn]) -> None:
     """The panels are those of the list: each line's in its number and size, turned only where it is free. Names differ."""
     found: dict[str, list[tuple[Size, bool]]] = {}
-    for sheet in sawn:
+    for sheet in each(sawn):
         for name, size, is_turned in sheet.panels:
             found.setdefault(name.split(" #")[0], []).append((size, is_turned))
     for row in rows:
-        size = Fraction(row["width"]), Fraction(row["height"])
+        size = exact(row["width"]), exact(row["height"])
         pieces = found.pop(row["name"], [])
         case.assertEqual(len(pieces), int(row["count"]))
         for its_size, is_turned in pieces:

@@ -8,7 +8,8 @@ from itertools import combinations
 from random import Random
 from typing import Any
 
-from .test_cut_runs import Case, Run, check_panels, rows_of, saw_all, write_example
+from .cut_steps import head_of
+from .test_cut_runs import Case, Run, check_panels, each, rows_of, saw_all, write_example
 
 HEAD, SHEETS = "name,count,width,height,grain\n", "name,count,width,height,cost\n"
 
@@ -50,18 +51,22 @@ class Saw(Case):
         table = [(row["name"], (Fraction(row["width"]), Fraction(row["height"])), int(row["count"]))
                  for row in rows_of((run.folder / "offcuts.csv").read_text(encoding="utf-8"))]
         left = [(it["name"], (it["width"], it["height"]), it["count"]) for it in json["offcuts_left"]]
-        cut = [(name, size, 1) for sheet in sawn for name, size in sheet.offcuts]
+        cut = [(name, size, sheet.count) for sheet in sawn for name, size in sheet.offcuts]
         self.assertEqual(table, left + cut)
         self.assertEqual(len({row[0] for row in cut}), len(cut))
-        self.assertEqual(len(json["sheets"]), len(sawn))
-        for sheet, printed in zip(sawn, json["sheets"]):
+        self.assertEqual(len(json["sheets"]), len(each(sawn)))
+        for sheet, printed in zip(each(sawn), json["sheets"]):
             self.saw_json(printed, Fraction(kerf))
             self.assertEqual((sheet.cuts, sheet.length), (len(printed["cuts"]), printed["cut_length"]))
-            self.assertEqual(sheet.panels, [(it["name"], (it["width"], it["height"]), it["turned"])
-                                            for it in self.in_order(printed, "panel")])
+            # The plan of several sheets has no numbers of panels.
+            found = [(it["name"].split(" #")[0] if sheet.count > 1 else it["name"], (it["width"], it["height"]), it["turned"])
+                     for it in self.in_order(printed, "panel")]
+            self.assertEqual(sheet.panels, found)
             sizes = [*(size for _, size, _ in sheet.panels), *(size for _, size in sheet.offcuts)]
             kept = sum((width * height for width, height in sizes), Fraction(0))
             self.assertEqual(printed["waste"], sheet.size[0] * sheet.size[1] - kept)
+        names = [it["name"] for sheet in json["sheets"] for it in sheet["panels"]]
+        self.assertEqual(len(set(names)), len(names))
         self.check_sums(json)
 
     def in_order(self, sheet: Any, role: str) -> list[Any]:
@@ -163,19 +168,23 @@ class ByHand(Case):
         run = self.cut_tables(HEAD + panels, SHEETS + stock, *words, "--replace")
         return run.sheets()
 
+    def count(self, panels: str, stock: str, *words: object) -> int:
+        """How many sheets there are: some may be cut alike."""
+        return sum(head_of(text.splitlines()).count for text in self.sheets(panels, stock, *words))
+
     def test_the_last_panel_of_a_row_needs_no_kerf(self) -> None:
         # 100 + 3.2 + 100 is 203.2.
-        self.assertEqual(len(self.sheets("a,2,100,100,keep\n", "s,,203.2,100,1\n", "--kerf", "3.2")), 1)
-        self.assertEqual(len(self.sheets("a,2,100,100,keep\n", "s,,203.1,100,1\n", "--kerf", "3.2")), 2)
-        self.assertEqual(len(self.sheets("a,2,100,100,keep\n", "s,,200,100,1\n", "--kerf", "0")), 1)
+        self.assertEqual(self.count("a,2,100,100,keep\n", "s,,203.2,100,1\n", "--kerf", "3.2"), 1)
+        self.assertEqual(self.count("a,2,100,100,keep\n", "s,,203.1,100,1\n", "--kerf", "3.2"), 2)
+        self.assertEqual(self.count("a,2,100,100,keep\n", "s,,200,100,1\n", "--kerf", "0"), 1)
         # With 10 off each edge.
-        self.assertEqual(len(self.sheets("a,2,100,100,keep\n", "s,,223.2,120,1\n", "--kerf", "3.2", "--trim", "10")), 1)
-        self.assertEqual(len(self.sheets("a,2,100,100,keep\n", "s,,223.1,120,1\n", "--kerf", "3.2", "--trim", "10")), 2)
+        self.assertEqual(self.count("a,2,100,100,keep\n", "s,,223.2,120,1\n", "--kerf", "3.2", "--trim", "10"), 1)
+        self.assertEqual(self.count("a,2,100,100,keep\n", "s,,223.1,120,1\n", "--kerf", "3.2", "--trim", "10"), 2)
 
     def test_the_steps_of_a_small_sheet(self) -> None:
         [text] = self.sheets("a,2,100,50,keep\n", "s,,203.2,60,1\n", "--kerf", "3.2", "--keep", "100x6")
         # Two panels in a row of 50; above it 60 - 50 - 3.2 is left.
-        self.assertIn("1. A 203.2 x 60: cut across y at 50 -> B 203.2 x 50, offcut \"s 1-1\" 203.2 x 6.8\n"
+        self.assertIn("1. A 203.2 x 60: cut across y at 50 -> B 203.2 x 50, offcut \"panels s 1-1\" 203.2 x 6.8\n"
                       "2. B 203.2 x 50: cut across x at 100 -> panel \"a #1\" 100 x 50, panel \"a #2\" 100 x 50\n", text)
 
     def test_what_is_measured_is_what_counts(self) -> None:
@@ -203,7 +212,7 @@ class ByHand(Case):
             self.assertIn(f"1. A 100 x {height}: {step}\n", text)
         # One that is worth keeping is no trim.
         [text] = self.sheets("a,1,100,50,keep\n", "s,,100,55,1\n", "--kerf", "3", "--keep", "0x0")
-        self.assertIn('1. A 100 x 55: cut across y at 50 -> panel "a" 100 x 50, offcut "s 1-1" 100 x 2\n', text)
+        self.assertIn('1. A 100 x 55: cut across y at 50 -> panel "a" 100 x 50, offcut "panels s 1-1" 100 x 2\n', text)
 
     def test_a_trim_inside_of_the_sheet_is_counted_from_its_part(self) -> None:
         # B begins at 103 of the sheet. Of its 41, 1 is more than the panel, and less than the blade.

@@ -94,7 +94,7 @@ class Offcuts(Case):
         # 2480x1230 without 1500x700 leaves, with the kerf, 976.8 along x and 526.8 along y.
         self.assertIn({row["width"] for row in rest}, ({"976.8", "2480"}, {"976.8", "1500"}))
         self.assertEqual({row["cost"] for row in rest}, {"0"})
-        self.assertTrue(all(row["name"].startswith("ply 1-") and row["count"] == "1" for row in rest))
+        self.assertTrue(all(row["name"].startswith("panels ply 1-") and row["count"] == "1" for row in rest))
         # A panel as large as one of them takes all of it, without a cut. The others are left.
         used, *others = rest
         panels = f"{HEAD}door,1,{used['width']},{used['height']},keep\n"

@@ -34,6 +34,22 @@ class Tables(Case):
             run = self.cut(panels, "--stock", stock, "--kerf", 0, "--replace")
             self.assertEqual(run.status, 0 if fits else 1, word)
 
+    def test_other_names_of_columns(self) -> None:
+        """Where the sides are length and width, the length lies along x: a panel that keeps its direction fits so."""
+        panels = self.write("p.csv", "Part;Pieces;Length;Width;Grain;Edge\nside;2;200;100;keep;beech\n")
+        stock = self.write("s.csv", "sheet,qty,width,height,price,,note,note\nply,3,200,100,7.5,,,\n")
+        run = self.cut(panels, "--stock", stock, "--kerf", 0, "--json")
+        passed = f"columns that are passed over: 'edge' of {panels}; 'note' of {stock}\n"
+        self.assertEqual((run.status, run.err), (0, passed))
+        self.assertEqual([(it["name"], it["count"], it["cost"]) for it in run.json["used"]], [("ply", 2, 15)])
+        self.assertEqual([part["name"] for sheet in run.json["sheets"] for part in sheet["panels"]], ["side #1", "side #2"])
+
+    def test_a_column_that_has_its_own_name_too(self) -> None:
+        panels = self.write("p.csv", "qty,count,pieces,width,height\n9,2,7,10,10\n")
+        run = self.cut(panels, "--stock", self.write("s.csv", STOCK), "--kerf", 0, "--json")
+        self.assertEqual((run.status, run.err), (0, f"columns that are passed over: 'qty', 'pieces' of {panels}\n"))
+        self.assertEqual(run.json["sums"]["panels"], 2)
+
     def test_names(self) -> None:
         """Panels of one name are numbered, past names that stand in the list. Each name is in one line, and can be printed."""
         rows = ["a,2,10,10,", "a #1,1,20,10,", "a,1,30,10,", ",2,40,10,", "b,0,50,10,", '"two\nlines",1,60,10,']
@@ -95,21 +111,30 @@ class Refusals(Case):
         return self.refused(self.write("p.csv", PANELS), "--stock", self.write("s.csv", STOCK), *words)
 
     def test_lists(self) -> None:
+        whole = "and must be a whole number from 0 to 4294967295"
         line = HEAD + "a,1,10,10,\n"
         for text, why in (
             ("", "p.csv: is empty; its first line names the columns: width, height"),
             (HEAD, "p.csv: names no panel"),
             (HEAD + "a,0,10,10,\n", "p.csv: names no panel"),
             ("name,width\na,1\n", "p.csv:1: the column 'height' is missing"),
-            ("width,height,colour\n1,1,red\n",
-             "p.csv:1: the column 'colour' is not known; there are: width, height, name, count, grain"),
+            # A required column that is mistyped is missing, also where others are passed over.
+            ("name,widht,height,colour\na,1,1,red\n",
+             "p.csv:1: the column 'width' is missing; not known: 'widht', 'colour'"),
             ("width,height,width\n1,1,1\n", "p.csv:1: the column 'width' is named twice"),
-            (line + "b,two,10,10,\n", "p.csv:3: count is 'two', and must be a whole number"),
-            (line + "b,-1,10,10,\n", "p.csv:3: count is '-1', and must be a whole number"),
-            (line + "b,1.5,10,10,\n", "p.csv:3: count is '1.5', and must be a whole number"),
+            (line + "b,two,10,10,\n", f"p.csv:3: count is 'two', {whole}"),
+            (line + "b,-1,10,10,\n", f"p.csv:3: count is '-1', {whole}"),
+            (line + "b,1.5,10,10,\n", f"p.csv:3: count is '1.5', {whole}"),
             (line + "b,1,,10,\n", "p.csv:3: width is missing"),
             (line + "b,1,0,10,\n", "p.csv:3: width is 0, and must be more than 0"),
-            (line + "b,1,10,-3,\n", "p.csv:3: height is -3, and must be at least 0"),
+            (line + "b,1,10,-3,\n", "p.csv:3: height is -3, and must be more than 0"),
+            (line + "b,1,-500,10,\n", "p.csv:3: width is -500, and must be more than 0"),
+            (line + "b,4294967296,10,10,\n", f"p.csv:3: count is '4294967296', {whole}"),
+            ("qty,length,width\n-1,10,10\n", f"p.csv:2: qty is '-1', {whole}"),
+            ("qty,length,width\n1,-500,10\n", "p.csv:2: length is -500, and must be more than 0"),
+            ("qty,length,width\n1,10,0\n", "p.csv:2: width is 0, and must be more than 0"),
+            ("length,width,height\n900,600,18\n",
+             "p.csv:1: the column 'length' is one too many beside 'width' and 'height', which are the two sides"),
             (line + "b,1,10,ten,\n", "p.csv:3: height is 'ten', and must be a number"),
             (line + "b,1,nan,10,\n", "p.csv:3: width is 'nan', and must be a number"),
             (line + "b,1,inf,10,\n", "p.csv:3: width is 'inf', and must be a number"),
@@ -145,7 +170,7 @@ class Refusals(Case):
             with self.subTest(text=text[-40:]):
                 self.assertEqual(self.of_stock(text), why)
         offcuts = self.write("o.csv", SHEETS + "o,one,1,1,1\n")
-        why = "o.csv:2: count is 'one', and must be a whole number"
+        why = "o.csv:2: count is 'one', and must be a whole number from 0 to 4294967295"
         self.assertEqual(self.of_words("--kerf", 3, "--offcuts", offcuts), why)
         none = self.folder / "none.csv"
         self.assertIn("none.csv: cannot be read", self.of_words("--kerf", 3, "--offcuts", none))
@@ -160,9 +185,10 @@ class Refusals(Case):
             (("--kerf", "1e-10"), "--kerf is 1e-10, and must have at most 9 decimals"),
             (("--kerf", "4294967295"), "--kerf is too large, where all is measured in steps of 1 mm"),
             (("--kerf", "3", "--trim", "nan"), f"--trim is 'nan', {number}"),
-            (("--kerf", "3", "--keep", "300"), "--keep is '300', and must be a width and a height in mm, as 300x200"),
+            (("--kerf", "3", "--keep", "300"), "--keep is '300', and must be a width and a height in mm, as 200x200"),
             (("--kerf", "3", "--keep", "300xtwo"), f"--keep is 'two', {number}"),
             (("--kerf", "3", "--tries", "0"), "--tries is 0, and must be at least 1"),
+            (("--kerf", "3", "--job", " "), "--job is empty, and must be a name"),
         ):
             with self.subTest(words=words):
                 self.assertEqual(self.of_words(*words), why)
@@ -182,7 +208,7 @@ class Refusals(Case):
             self.assertEqual((run.returncode, run.stdout, run.stderr.count("\n")), (2, "", 1))
             self.assertIn(why, run.stderr)
         self.assertEqual(self.cut(*words).status, 0)
-        self.assertEqual(self.refused(*words), "plan/offcuts.csv: is there already, of an earlier run: --replace lets it go")
+        self.assertEqual(self.refused(*words), "plan/buy.csv: is there already, of an earlier run: --replace lets it go")
 
     def test_plans_of_an_earlier_run_go(self) -> None:
         words = ["--stock", self.write("s.csv", STOCK), "--kerf", 3]
@@ -191,7 +217,7 @@ class Refusals(Case):
         (self.folder / "plan" / "plan.pdf").write_text("old", encoding="utf-8")
         self.assertEqual(self.cut(self.write("p.csv", f"{HEAD}a,1,300,200,\n"), *words, "--replace").status, 0)
         names = sorted(path.name for path in (self.folder / "plan").iterdir())
-        self.assertEqual(names, ["notes.txt", "offcuts.csv", "sheet-1.svg", "sheet-1.txt"])
+        self.assertEqual(names, ["buy.csv", "notes.txt", "offcuts.csv", "sheet-1.svg", "sheet-1.txt"])
 
     def test_a_pdf_needs_its_library(self) -> None:
         self.write("cairo.py", "raise ImportError\n")
@@ -215,9 +241,9 @@ class Sums(Case):
     def test_what_is_printed(self) -> None:
         # 2 x 5000 of 3 x 6000 mm2 is kept as panels; each sheet leaves 100x10, too small to keep.
         run = self.cut_tables(f"{HEAD}a,2,100,50,keep\n", f"{SHEETS}s,,100,60,1.25\n", "--kerf", 0)
-        self.assertEqual(run.out.splitlines()[:4], [
-            "2 panels from 2 sheets, cost 2.5", "  2 x s, 100 x 60, cost 2.5", "waste 16.7 %; 0 offcuts kept, 0.0 %",
-            "2 cuts of 0.2 m together"])
+        self.assertEqual(run.out.splitlines(), [
+            "2 panels from 2 sheets, cost 2.5", "  2 x s, 100 x 60, cost 2.5", "  sheets 1 to 2: 2 times this sheet",
+            "waste 16.7 %; 0 offcuts kept, 0.0 %", "2 cuts of 0.2 m together", f"4 files written to {run.folder}"])
         self.assertEqual(rows_of((run.folder / "offcuts.csv").read_text(encoding="utf-8")), [])
 
 

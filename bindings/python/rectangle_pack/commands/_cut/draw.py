@@ -6,16 +6,19 @@ from decimal import Decimal
 
 from .label import Words, label
 from .layout import (
-    FACTS_AT, LEGEND_LINE, LEGEND_SIZE, LONG, MARGIN, MEASURES, SHORT, SWATCH, TITLE_AT, Layout, colour_of, entries_of,
-    offcut_key, scale_text,
+    FACTS_AT, JOB_AT, LEGEND_LINE, LEGEND_SIZE, LONG, MARGIN, MEASURES, SHORT, SWATCH, TITLE_AT, Layout, colour_of,
+    entries_of, offcut_key, scale_text,
 )
 from .page import Area, Disc, Lines, Oblong, Page, Shape, Stroke, Text, shortened, text_width
 from .plan import Cut, Part, Rect, SheetPlan
 from .result import Result, percent
 from .steps import piece_of, steps_of
-from .text import counted, heading, metres
+from .text import counted, heading, stem_of
 
 __all__ = ["page_of"]
+
+# The size of the numbers of cuts: on paper less could not be read. Those that have no room are left out.
+NUMBER_SIZE = 2.5
 
 INK, FAINT, BLADE, KEPT, WASTE, HATCH = "#1d2429", "#5d686f", "#b3261e", "#1f6b3a", "#f1f1ee", "#c9cdca"
 
@@ -45,7 +48,7 @@ class _Drawing:
         self.without_label = 0
 
     def mm(self, cells: int) -> Decimal:
-        return Decimal(cells).scaleb(-self.lengths.decimals)
+        return self.lengths.mm(cells)
 
     def paper(self, cells: int) -> float:
         """A length of the sheet on paper."""
@@ -58,15 +61,18 @@ class _Drawing:
                     self.paper(rect.width), self.paper(rect.height))
 
     def head(self) -> None:
-        """The title, and below it what is to be known of the sheet."""
+        """The title, the job, and below it what is to be known of the sheet."""
         plan, job, width = self.plan, self.result.job, self.layout.width - 2 * MARGIN
-        title = shortened(heading(self.result, plan), width, 4.6, is_bold=True)
+        title = shortened(heading(self.result, plan), width, 4.6, f": {plan.times}" if plan.times else "", True)
         self.shapes.append(Text(MARGIN, TITLE_AT, title, 4.6, INK, is_centred=False, is_bold=True))
+        of = f", {job.of}" if job.of else ""
+        title = shortened(f"Job {job.name}", width, 3.4, of, True) or shortened(job.title, width, 3.4, is_bold=True)
+        self.shapes.append(Text(MARGIN, JOB_AT, title, 3.4, INK, is_centred=False, is_bold=True))
         facts = [
             f"scale {scale_text(self.layout.scale)}", f"kerf {self.lengths.text(job.kerf)}",
             f"trim {self.lengths.text(plan.kind.trim)}", counted(len(plan.panels), "panel"),
             f"waste {percent(plan.waste, plan.kind.area)} %",
-            f"{counted(len(plan.cuts), 'cut')} of {metres(job, plan.cut_length)} together",
+            f"{counted(len(plan.cuts), 'cut')} of {self.lengths.far(plan.cut_length)} together",
         ]
         self.shapes.append(Text(MARGIN, FACTS_AT, ", ".join(facts), 3.0, FAINT, is_centred=False))
 
@@ -105,8 +111,8 @@ class _Drawing:
             panel = part.laid.panel
             tail = part.name[len(panel.title):]
             self.part(part, colour_of(panel.key), INK, str(panel.key), (panel.title, tail))
-        for number, part in enumerate(self.plan.offcuts, 1):
-            key = offcut_key(self.plan, number)
+        for part in self.plan.offcuts:
+            key = offcut_key(part)
             self.part(part, "#ffffff", KEPT, key, (f"offcut {part.name[:-len(key) - 1]}", f" {key}"))
 
     def blade(self, cut: Cut) -> Area:
@@ -129,7 +135,7 @@ class _Drawing:
 
     def number(self, text: str, blade: Area, is_upright: bool) -> None:
         """The number of a cut, somewhere on it: rather near its ends, and not on other texts."""
-        size = 1.9
+        size = NUMBER_SIZE
         radius = text_width(text, size) / 2 + 0.35
         # On a short cut it would hide what is cut.
         if max(blade.width, blade.height) < 5 * radius:
@@ -156,7 +162,7 @@ class _Drawing:
         if layout.hidden:
             place = layout.column(len(layout.entries))
             self.shapes.append(Text(place.x, place.middle[1], f"and {layout.hidden} more", LEGEND_SIZE, INK, is_centred=False))
-        notes = [f"Numbers in circles: the cuts of sheet-{self.plan.number}.txt. Hatched: waste."]
+        notes = [f"Numbers in circles: the cuts of {stem_of(self.plan)}.txt, which has all of them. Hatched: waste."]
         if self.without_label:
             notes.append(f"Too small for a number: {self.without_label}.")
         self.shapes.append(Text(MARGIN, layout.end - 1.5, " ".join(notes), 2.4, FAINT, is_centred=False))
@@ -171,7 +177,7 @@ class _Drawing:
         plan = self.plan
         description = f"{len(plan.panels)} panels, {len(plan.offcuts)} offcuts, {len(plan.cuts)} cuts."
         what = "; ".join(entry.text for entry in entries_of(self.result, plan))
-        title, layout = heading(self.result, plan), self.layout
+        title, layout = ", ".join(filter(None, (heading(self.result, plan), plan.times, self.result.job.title))), self.layout
         return Page(layout.width, layout.height, layout.end + MARGIN, title, f"{description} {what}", self.shapes)
 
 

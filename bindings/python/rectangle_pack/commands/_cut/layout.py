@@ -7,22 +7,22 @@ from dataclasses import dataclass
 from decimal import Decimal
 
 from .page import Area, text_width
-from .plan import SheetPlan
+from .plan import Part, SheetPlan
 from .result import Result
 from .steps import piece_of
 
 __all__ = [
-    "FACTS_AT", "LEGEND_LINE", "LEGEND_SIZE", "LONG", "MARGIN", "MEASURES", "SHORT", "SWATCH", "TITLE_AT", "Layout", "colour_of",
-    "entries_of", "offcut_key", "scale_text",
+    "FACTS_AT", "JOB_AT", "LEGEND_LINE", "LEGEND_SIZE", "LONG", "MARGIN", "MEASURES", "SHORT", "SWATCH", "TITLE_AT", "Layout",
+    "colour_of", "entries_of", "offcut_key", "scale_text",
 ]
 
 COLOURS = ("#bfe0ee", "#ffe3a0", "#d3e6ab", "#f9cfc3", "#e2d6ec", "#bfe0d8", "#f7e3c0", "#cfdaff",
            "#f2cfd1", "#dcdcd0", "#ffe7c9", "#c9e2ba")
 
 LONG, SHORT, MARGIN = 297.0, 210.0, 10.0
-# Where title and facts stand; how high are the head, the measures of the sheet, the gap below it, a line of the legend, and
-# what stands below that.
-TITLE_AT, FACTS_AT, HEAD, MEASURES, GAP, LEGEND_LINE, FOOT = 14.0, 20.0, 24.0, 8.0, 5.0, 4.6, 5.0
+# Where title, job and facts stand; how high are the head, the measures of the sheet, the gap below it, a line of the legend,
+# and what stands below that.
+TITLE_AT, JOB_AT, FACTS_AT, HEAD, MEASURES, GAP, LEGEND_LINE, FOOT = 13.0, 18.5, 23.0, 26.0, 8.0, 5.0, 4.6, 5.0
 # A column of the legend is at least so wide. Long entries are cut short where it would have more lines than these. It takes
 # at most this part of the page. Then the size of its text, and how much room the coloured number before that takes.
 COLUMN, LEGEND_LINES, LEGEND_PART, LEGEND_SIZE, SWATCH = 45.0, 8, 0.35, 2.8, 9.0
@@ -50,9 +50,9 @@ def entries_of(result: Result, plan: SheetPlan) -> list[Entry]:
     for key in sorted(counts):
         text = f"{counts[key]} x {panels[key].title}, {lengths.size(panels[key].width, panels[key].height)}"
         entries.append(Entry(str(key), text, colour_of(key)))
-    for number, part in enumerate(plan.offcuts, 1):
+    for part in plan.offcuts:
         piece = piece_of(result.job, part)
-        entries.append(Entry(offcut_key(plan, number), f"offcut {piece.name}, {piece.size}", "#ffffff", True))
+        entries.append(Entry(offcut_key(part), f"offcut {piece.name}, {piece.size}", "#ffffff", True))
     return entries
 
 
@@ -60,9 +60,9 @@ def colour_of(key: int) -> str:
     return COLOURS[(key - 1) % len(COLOURS)]
 
 
-def offcut_key(plan: SheetPlan, number: int) -> str:
-    """The end of its name."""
-    return f"{plan.number}-{number}"
+def offcut_key(part: Part) -> str:
+    """The end of its name, which has the number of the sheet and its own."""
+    return part.name.rsplit(" ", 1)[-1]
 
 
 class Layout:

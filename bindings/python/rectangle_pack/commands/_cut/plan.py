@@ -96,10 +96,22 @@ class SheetPlan:
     cuts: Sequence[Cut]
     panels: Sequence[Part]
     offcuts: Sequence[Part]
+    # How many sheets are cut by it: this one, and those that follow.
+    count: int = 1
 
     @property
     def kind(self) -> Kind:
         return self.filled.kind
+
+    @property
+    def numbers(self) -> str:
+        """Of the sheets that are cut by it: 4, or 1 to 3"""
+        return str(self.number) if self.count == 1 else f"{self.number} to {self.number + self.count - 1}"
+
+    @property
+    def times(self) -> str:
+        """How many they are, where they are several: 3 times this sheet"""
+        return f"{self.count} times this sheet" if self.count > 1 else ""
 
     @property
     def waste(self) -> int:

@@ -1,29 +1,31 @@
-"""Reads the cutting list, the stock and the offcuts."""
+"""Reads the cutting list, the stock and the offcuts: a job for each material."""
 from __future__ import annotations
 
 from collections import Counter
 from collections.abc import Iterator, Sequence
 from dataclasses import dataclass
-from decimal import Decimal, InvalidOperation
+from decimal import Decimal
 from pathlib import Path
 
-from .._common import Wrong
-from .._scale import MOST, MOST_DECIMALS, Scale, decimals_of
-from .._tables import Row, read_table
-from .job import Job, Kind, Panel
+from .._common import NoRoom, Wrong
+from .._scale import MOST, Scale, decimals_of
+from .job import Job, Kind, Material, Panel, Work
+from .lines import Line, Table, panel_table, printable, sheet_table, why_not
+from .unit import Lengths, Unit
 
-__all__ = ["MOST_PANELS", "Sizes", "read_job", "sizes_of"]
+__all__ = ["MOST_PANELS", "Sizes", "Tables", "read_work", "sizes_of"]
 
 MOST_PANELS = 100_000
 
-# What stands in the column grain: whether the panel keeps its direction.
-_GRAIN = {"keep": True, "yes": True, "free": False, "no": False}
+# What lines have in common whose panels are cut from their sheets.
+_Key = tuple[str, Decimal]
 
 
 @dataclass(frozen=True)
 class Sizes:
-    """The sizes that options give, in millimetres."""
+    """The sizes that options give."""
 
+    unit: Unit
     kerf: Decimal
     trim: Decimal
     # The longer and the shorter side.
@@ -32,118 +34,62 @@ class Sizes:
 
 
 @dataclass(frozen=True)
-class _Line:
-    """A line of a table, with its numbers as they stand there."""
+class Tables:
+    """The files that are read."""
 
-    row: Row
-    name: str
-    count: int | None
-    width: Decimal
-    height: Decimal
-    cost: Decimal = Decimal(0)
-    is_offcut: bool = False
-    is_free: bool = False
+    panels: Path
+    stock: Path | None
+    offcuts: Sequence[Path]
 
 
-def _why_not(number: Decimal) -> str:
-    """Why a number is refused, whatever the others are; else nothing."""
-    if number > MOST:
-        return f"must be at most {MOST}"
-    if decimals_of(number) > MOST_DECIMALS:
-        return f"must have at most {MOST_DECIMALS} decimals"
-    return ""
-
-
-def _number(option: str, text: str) -> Decimal:
+def _number(option: str, text: str, unit: Unit) -> Decimal:
     """A number of an option. Decimals may have a comma before them."""
-    try:
-        number = Decimal(text.strip().replace(",", "."))
-    except InvalidOperation:
-        number = Decimal("nan")
-    if not number.is_finite() or number < 0:
-        raise Wrong(f"{option} is {text!r}, and must be a number in mm that is not negative")
-    if why := _why_not(number):
+    number = unit.number(text)
+    if number is None or number < 0:
+        raise Wrong(f"{option} is {text!r}, and must be a number in {unit.name} that is not negative")
+    if why := why_not(number):
         raise Wrong(f"{option} is {text}, and {why}")
     return number
 
 
-def sizes_of(kerf: str, trim: str, keep: str, trims_offcuts: bool) -> Sizes:
-    """What the options --kerf, --trim and --keep say."""
-    sides = keep.lower().split("x")
+def sizes_of(unit: Unit, kerf: str, trim: str, keep: str | None, trims_offcuts: bool) -> Sizes:
+    """What the options --unit, --kerf, --trim and --keep say."""
+    sides = (unit.keep if keep is None else keep).lower().split("x")
     if len(sides) != 2:
-        raise Wrong(f"--keep is {keep!r}, and must be a width and a height in mm, as 300x200")
-    shorter, longer = sorted(_number("--keep", side) for side in sides)
-    return Sizes(_number("--kerf", kerf), _number("--trim", trim), (longer, shorter), trims_offcuts)
+        raise Wrong(f"--keep is {keep!r}, and must be a width and a height in {unit.name}, as {unit.keep}")
+    shorter, longer = sorted(_number("--keep", side, unit) for side in sides)
+    return Sizes(unit, _number("--kerf", kerf, unit), _number("--trim", trim, unit), (longer, shorter), trims_offcuts)
 
 
-def _name(row: Row, default: str) -> str:
-    """The name in one line, without what cannot be printed."""
-    words = " ".join(row.text("name", default).split())
-    return "".join(letter if letter.isprintable() else "?" for letter in words)
+def _check_columns(tables: Sequence[Table]) -> None:
+    """Refuses tables of which only some have a column for the material, or for the thickness."""
+    for column in ("material", "thickness"):
+        having = [it.path for it in tables if it.lines and column in it.lines[0].row.values]
+        lacking = [it.path for it in tables if it.lines and column not in it.lines[0].row.values]
+        if having and lacking:
+            raise Wrong(f"the column {column!r} is missing, and {having[0]} has it", lacking[0], 1)
 
 
-def _exact(row: Row, column: str, default: Decimal | None = None) -> Decimal:
-    number = row.decimal(column, default=default)
-    if why := _why_not(number):
-        raise row.wrong(f"{column} is {row.text(column)}, and {why}")
-    return number
-
-
-def _side(row: Row, column: str) -> Decimal:
-    number = _exact(row, column)
-    if not number:
-        raise row.wrong(f"{column} is {row.text(column)}, and must be more than 0")
-    return number
-
-
-def _panel_line(row: Row) -> _Line:
-    width, height = _side(row, "width"), _side(row, "height")
-    grain = row.choice("grain", tuple(_GRAIN), "free")
-    return _Line(row, _name(row, "panel"), row.whole("count", default=1), width, height, is_free=not _GRAIN[grain])
-
-
-def _sheet_line(row: Row, is_offcut: bool) -> _Line:
-    width, height = _side(row, "width"), _side(row, "height")
-    cost = _exact(row, "cost", Decimal(0) if is_offcut else None)
-    # Of an offcut there is one, where the table does not say more; of a sheet there are as many as are needed.
-    count = row.whole("count", default=1) if is_offcut or row.values.get("count") else None
-    return _Line(row, _name(row, "offcut" if is_offcut else "sheet"), count, width, height, cost, is_offcut)
-
-
-def _panel_lines(path: Path) -> list[_Line]:
-    lines = [_panel_line(row) for row in read_table(path, ("width", "height"), ("name", "count", "grain"))]
-    total = sum(line.count or 0 for line in lines)
+def _panel_table(path: Path, unit: Unit) -> Table:
+    table = panel_table(path, unit)
+    total = sum(line.count or 0 for line in table.lines)
     if not total:
         raise Wrong("names no panel", path)
     if total > MOST_PANELS:
         raise Wrong(f"names {total} panels, and at most {MOST_PANELS} can be cut at once", path)
-    return lines
+    return table
 
 
-def _sheet_lines(stock: Path | None, offcuts: Sequence[Path]) -> list[_Line]:
-    lines = []
-    for it in offcuts:
-        rows = read_table(it, ("width", "height"), ("name", "count", "cost"))
-        lines += [_sheet_line(row, True) for row in rows]
-    if stock is not None:
-        rows = read_table(stock, ("width", "height", "cost"), ("name", "count"))
-        lines += [_sheet_line(row, False) for row in rows]
-        if not rows:
-            raise Wrong("names no sheet", stock)
-    return lines
+def _sheet_tables(paths: Tables, unit: Unit) -> list[Table]:
+    tables = [sheet_table(it, unit, True) for it in paths.offcuts]
+    if paths.stock is not None:
+        tables.append(sheet_table(paths.stock, unit, False))
+        if not tables[-1].lines:
+            raise Wrong("names no sheet", paths.stock)
+    return tables
 
 
-def _checked(line: _Line, scale: Scale, kerf: int) -> tuple[int, int]:
-    """The width and the height of a line in cells, where the library holds them with the kerf."""
-    for column, number in (("width", line.width), ("height", line.height)):
-        if scale.cells(number) + kerf > MOST:
-            most = scale.text(MOST - kerf)
-            unit = scale.text(1)
-            raise line.row.wrong(f"{column} is too large: {most} mm at most, where all is measured in steps of {unit} mm")
-    return scale.cells(line.width), scale.cells(line.height)
-
-
-def _labels(lines: Sequence[_Line]) -> Iterator[str]:
+def _labels(lines: Sequence[Line]) -> Iterator[str]:
     """A name for each panel. Where several have one name they are numbered, past names that stand in the list."""
     totals: Counter[str] = Counter()
     for line in lines:
@@ -158,30 +104,93 @@ def _labels(lines: Sequence[_Line]) -> Iterator[str]:
             yield label
 
 
-def _panels(lines: Sequence[_Line], scale: Scale, kerf: int) -> list[Panel]:
-    labels, panels = _labels(lines), []
-    for key, line in enumerate(lines, 1):
-        width, height = _checked(line, scale, kerf)
-        panels += [
-            Panel(next(labels), key, line.name, width, height, line.is_free, line.row.line) for _ in range(line.count or 0)]
-    return panels
+def _key(line: Line) -> _Key:
+    return line.material.casefold(), line.thickness or Decimal(0)
 
 
-def read_job(panels: Path, stock: Path | None, offcuts: Sequence[Path], sizes: Sizes) -> Job:
+class _Reader:
+    """Turns lines into panels and kinds of sheets, in whole cells that all of these have in common."""
+
+    def __init__(self, lines: Sequence[Line], sizes: Sizes) -> None:
+        self.sizes = sizes
+        numbers = [number for line in lines for number in (line.width, line.height)]
+        self.lengths = Lengths(Scale.of([*numbers, sizes.kerf, sizes.trim, *sizes.keep]).decimals, sizes.unit)
+        self.costs = Scale.of(line.cost for line in lines)
+        self.kerf, self.trim = self.lengths.cells(sizes.kerf), self.lengths.cells(sizes.trim)
+        self.keep = self.lengths.cells(sizes.keep[0]), self.lengths.cells(sizes.keep[1])
+        if self.kerf >= MOST:
+            raise Wrong(f"--kerf is too large, where all is measured in steps of {self.lengths.text(1)} {sizes.unit.name}")
+
+    def sides(self, line: Line) -> tuple[int, int]:
+        """The width and the height of a line in cells, where the library holds them with the kerf."""
+        lengths, unit = self.lengths, self.sizes.unit.name
+        for column, number in (("width", line.width), ("height", line.height)):
+            if lengths.cells(number) + self.kerf > MOST:
+                most = f"{lengths.text(MOST - self.kerf)} {unit} at most"
+                step = f"where all is measured in steps of {lengths.text(1)} {unit}"
+                raise line.row.wrong(f"{line.row.head(column)} is too large: {most}, {step}")
+        return lengths.cells(line.width), lengths.cells(line.height)
+
+    def panels(self, lines: Sequence[Line]) -> Iterator[tuple[_Key, Panel]]:
+        """The panels, each with the key of its line."""
+        labels = _labels(lines)
+        for number, line in enumerate(lines, 1):
+            sides = self.sides(line)
+            for _ in range(line.count or 0):
+                yield _key(line), Panel(next(labels), number, line.name, *sides, line.is_free, line.row.line)
+
+    def kind(self, line: Line) -> Kind:
+        is_trimmed = not line.is_offcut or self.sizes.trims_offcuts
+        cost, trim = self.costs.cells(line.cost), self.trim if is_trimmed else 0
+        return Kind(line.name, *self.sides(line), cost, line.count, line.is_offcut, trim)
+
+    def material(self, line: Line) -> Material:
+        number = line.thickness
+        text = "" if number is None else (scale := Lengths(decimals_of(number), self.sizes.unit)).text(scale.cells(number))
+        return Material(line.material, text)
+
+
+def _jobs(name: str, panels: Sequence[Line], sheets: Sequence[Line], sizes: Sizes) -> list[Job]:
+    """A job for each material, in the order of the lines."""
+    it, lines = _Reader([*panels, *sheets], sizes), [*panels, *sheets]
+    by_key: dict[_Key, tuple[Material, list[Panel], list[Kind]]] = {}
+    for line in lines:
+        by_key.setdefault(_key(line), (it.material(line), [], []))
+    for key, panel in it.panels(panels):
+        by_key[key][1].append(panel)
+    for line in sheets:
+        by_key[_key(line)][2].append(it.kind(line))
+    taken = frozenset(line.name for line in sheets if line.is_offcut)
+    return [
+        Job(own, kinds, it.kerf, it.keep, it.lengths, it.costs, name, material, taken)
+        for material, own, kinds in by_key.values()]
+
+
+def _check_sheets(jobs: Sequence[Job]) -> None:
+    """Raises NoRoom where there are panels of a material, and no sheets."""
+    for job in jobs:
+        if job.panels and not job.kinds:
+            panel = job.panels[0]
+            raise NoRoom(f"the panel {panel.name!r} of line {panel.line} is of {job.of}, and no sheet is")
+
+
+def _note(tables: Sequence[Table]) -> str:
+    """Which columns are passed over."""
+    passed = [f"{', '.join(map(repr, dict.fromkeys(it.passed)))} of {it.path}" for it in tables if it.passed]
+    return f"columns that are passed over: {'; '.join(passed)}" if passed else ""
+
+
+def read_work(name: str, paths: Tables, sizes: Sizes) -> Work:
     """All that a run is given."""
-    panel_lines, sheet_lines = _panel_lines(panels), _sheet_lines(stock, offcuts)
-    lines = [*panel_lines, *sheet_lines]
-    numbers = [number for line in lines for number in (line.width, line.height)]
-    lengths = Scale.of([*numbers, sizes.kerf, sizes.trim, *sizes.keep])
-    costs = Scale.of(line.cost for line in lines)
-    kerf, trim = lengths.cells(sizes.kerf), lengths.cells(sizes.trim)
-    if kerf >= MOST:
-        raise Wrong(f"--kerf is too large, where all is measured in steps of {lengths.text(1)} mm")
-    kinds = []
-    for line in sheet_lines:
-        width, height = _checked(line, lengths, kerf)
-        is_trimmed = not line.is_offcut or sizes.trims_offcuts
-        kinds.append(Kind(
-            line.name, width, height, costs.cells(line.cost), line.count, line.is_offcut, trim if is_trimmed else 0))
-    keep = lengths.cells(sizes.keep[0]), lengths.cells(sizes.keep[1])
-    return Job(_panels(panel_lines, lengths, kerf), kinds, kerf, keep, lengths, costs)
+    name = printable(name)
+    if not name:
+        raise Wrong("--job is empty, and must be a name")
+    panels, sheets = _panel_table(paths.panels, sizes.unit), _sheet_tables(paths, sizes.unit)
+    tables = [panels, *sheets]
+    _check_columns(tables)
+    jobs = _jobs(name, panels.lines, [line for it in sheets for line in it.lines], sizes)
+    _check_sheets(jobs)
+    first = panels.lines[0]
+    return Work(
+        name, [job for job in jobs if job.panels], [job for job in jobs if job.kinds and not job.panels],
+        "material" in first.row.values, first.thickness is not None, _note(tables))

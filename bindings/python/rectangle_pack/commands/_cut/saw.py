@@ -122,8 +122,8 @@ class _Saw:
     """Goes through the plan of one sheet."""
 
     def __init__(self, job: Job, filled: Filled, number: int) -> None:
-        self.job, self.kind, self.number = job, filled.kind, number
-        self.letters = _letters()
+        self.job, self.kind = job, filled.kind
+        self.letters, self.names = _letters(), job.offcut_names(filled.kind, number)
         self.cuts: list[Cut] = []
         self.panels: list[Part] = []
         self.offcuts: list[Part] = []
@@ -167,7 +167,7 @@ class _Saw:
             return None
         if not self.job.is_worth_keeping(rect.width, rect.height):
             return Part("waste", "", rect)
-        self.offcuts.append(Part("offcut", f"{self.kind.name} {self.number}-{len(self.offcuts) + 1}", rect))
+        self.offcuts.append(Part("offcut", next(self.names), rect))
         return self.offcuts[-1]
 
     def edge(self, axis: FlatAxis, behind: Part | None) -> Edge:

@@ -28,6 +28,7 @@ from .packing import Filled
 from .score import Answer
 from .sets import SheetSet, area_needed, area_of, cheaper_sets, frontier, kinds_by_cost, most_of
 from .trials import Stages, Trials
+from .watch import Watch
 
 __all__ = ["search"]
 
@@ -137,14 +138,11 @@ class _Search:
 
     def run(self) -> list[Filled]:
         """All steps, one after the other."""
-        try:
-            self.begin()
-            self.cheaper()
-            while self.without_offcuts():
-                pass
-            self.improve()
-        finally:
-            self.trials.end()
+        self.begin()
+        self.cheaper()
+        while self.without_offcuts():
+            pass
+        self.improve()
         return [self.trials.polished(sheet) for sheet in self.best.packed.sheets]
 
 
@@ -187,7 +185,7 @@ def _check_each_fits(job: Job) -> None:
             raise NoRoom(f"the panel {panel.name!r} of line {panel.line}, {size}, {why}")
 
 
-def search(job: Job, heuristics: Sequence[Heuristic], tries: int) -> list[Filled]:
-    """The sheets with their panels. Raises NoRoom."""
+def search(job: Job, heuristics: Sequence[Heuristic], tries: int, watch: Watch) -> list[Filled]:
+    """The sheets with their panels. The watch is told of each try. Raises NoRoom."""
     _check_each_fits(job)
-    return _Search(job, Trials(job, heuristics, tries)).run()
+    return _Search(job, Trials(job, heuristics, tries, watch)).run()

@@ -7,11 +7,11 @@ from itertools import cycle
 from random import Random
 
 from ... import Heuristic
-from .._common import progress
 from .job import Job, Kind
 from .packing import Filled, fill
 from .score import Answer, Score, Scores, rough_score
 from .turns import Turns, batches_of, first_turns, laid_by, neighbours, settle, shaken
+from .watch import Watch
 
 __all__ = ["Stages", "Trials"]
 
@@ -21,27 +21,25 @@ Stages = Sequence[Sequence[Kind]]
 class Trials:
     """Counts the tries, and has the best packing of all panels that was found."""
 
-    def __init__(self, job: Job, heuristics: Sequence[Heuristic], tries: int) -> None:
-        self.job, self.heuristics, self.tries, self.used = job, heuristics, tries, 0
+    def __init__(self, job: Job, heuristics: Sequence[Heuristic], tries: int, watch: Watch) -> None:
+        self.job, self.heuristics, self.tries, self.used, self.watch = job, heuristics, tries, 0, watch
         self.batches = batches_of(job.panels)
         self.first_turns = first_turns(self.batches)
         self.scores = Scores(job)
-        self.bar: Iterator[int] = progress(range(tries), tries, "trying")
         self.best: Answer | None = None
 
     def are_left(self, share: Fraction = Fraction(1)) -> bool:
         """Whether this share of all tries is not used up."""
         return self.used < self.tries * share
 
-    def end(self) -> None:
-        """Lets the bar go on to its end."""
-        for _ in self.bar:
-            pass
-
     def attempt(self, stages: Stages, turns: Turns) -> Answer:
         """The best packing of a try; and it is the best of all, where it is."""
         self.used += 1
-        next(self.bar, None)
+        answer = self._packed(stages, turns)
+        self.watch.tried(self.used, self.best.packed.sheets if self.best else ())
+        return answer
+
+    def _packed(self, stages: Stages, turns: Turns) -> Answer:
         laid = laid_by(turns, self.batches)
         found = [fill(stages, laid, heuristic, self.job.kerf) for heuristic in self.heuristics]
         least = min(rough_score(it) for it in found)

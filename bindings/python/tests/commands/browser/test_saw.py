@@ -7,10 +7,10 @@ from collections import Counter
 from collections.abc import Iterator, Sequence
 from typing import NamedTuple
 
-from ..cut_steps import PAGE, Piece, Step, step_in, steps_in
+from ..cut_steps import PAGE, Piece, Step, head_of, step_in, steps_in
 from ..cutting_lists import CuttingList, by_hand, drawn_lists
 from ..test_cut_drawings import ODD
-from ..test_cut_runs import HEADING, UNCUT, run_cut, write_example
+from ..test_cut_runs import UNCUT, run_cut, write_example
 from ..test_view_tools import TOP, cut_scene, with_everything
 from .browser import BrowserCase, Keys, program
 
@@ -116,12 +116,11 @@ class Saw(BrowserCase):
         counts: Counter[str] = Counter()
         expected: list[Said] = []
         panels: list[tuple[str, str, str, str, bool]] = []
-        for number, text in enumerate(run.sheets(), 1):
+        for text in run.sheets():
             lines = text.splitlines()
-            heading, kerf, steps = HEADING.fullmatch(lines[0]), lines[1].split(",")[0].removeprefix("Kerf "), steps_in(lines)
-            assert heading
-            room = f"sheet {number}: {heading.group(3).removeprefix('offcut ')}"
-            expected += [Said(room, brief(step), step, spoken(step, len(steps), room, kerf)) for step in steps]
+            head, steps = head_of(lines), steps_in(lines)
+            room = head.room
+            expected += [Said(room, brief(step), step, spoken(step, len(steps), room, head.kerf)) for step in steps]
             panels += [(it.name, room, it.width, it.height, it.is_turned) for it in self.panels_in(lines, steps)]
             counts += counts_of(steps)
         rows: list[list[str]] = self.js(BOXES)
