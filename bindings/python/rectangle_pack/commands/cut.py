@@ -8,9 +8,10 @@ from pathlib import Path
 from typing import Any, get_args
 
 from .. import Heuristic
-from ._common import DONE, STOPPED, NoRoom, Wrong, print_json, refuse_over
+from ._common import DONE, STOPPED, Wrong, print_json, refuse_over
 from ._cut.alike import alike_of
 from ._cut.files import earlier, files_of, write_all
+from ._cut.fits import check_each_fits
 from ._cut.job import Job, Work
 from ._cut.packing import Filled
 from ._cut.pdf import cairo
@@ -147,8 +148,6 @@ def _searched(job: Job, options: argparse.Namespace, watch: Watch) -> tuple[Sequ
         return search(job, heuristics, options.tries, watch), False
     except KeyboardInterrupt:
         return watch.best, True
-    except NoRoom as why:
-        raise NoRoom(f"{job.of}: {why}" if job.of else str(why)) from None
     finally:
         watch.end()
 
@@ -156,6 +155,9 @@ def _searched(job: Job, options: argparse.Namespace, watch: Watch) -> tuple[Sequ
 def _plan(work: Work, options: argparse.Namespace) -> tuple[Results, str]:
     """Plans one job after the other, until the user ends that; and a line that says so. Those without a plan have no sheets."""
     results, stopped = list[Result](), ""
+    # Before the first search, which may take long.
+    for job in work.jobs:
+        check_each_fits(job)
     for job in work.jobs:
         filled: Sequence[Filled] = ()
         if not stopped:

@@ -5,6 +5,7 @@ import unittest
 from fractions import Fraction
 from pathlib import Path
 from typing import Any
+from unittest import mock
 
 from .test_cut_runs import Case, Run, rows_of, run_cut, saw_all
 
@@ -138,6 +139,18 @@ class Materials(Case):
         ):
             with self.subTest(why):
                 self.assertEqual(self.refused(*words), (status, why))
+
+    def test_a_panel_that_fits_no_sheet_is_named_before_the_first_search(self) -> None:
+        stock = "width,height,cost,material\n10,10,1,oak\n10,10,1,ash\n"
+        with mock.patch("rectangle_pack.commands.cut.search", side_effect=AssertionError("a search has begun")):
+            refused = self.refused("name,width,height,material\na,10,10,oak\nb,10,11,ash\n", stock)
+        self.assertEqual(refused, (1, "ash: the panel 'b' of line 3, 10 x 11, fits no sheet"))
+
+    def test_stock_that_is_used_up(self) -> None:
+        stock = "count,width,height,cost,material\n9,10,10,1,oak\n1,10,10,1,ash\n"
+        refused = self.refused("name,count,width,height,material\na,1,10,10,oak\nb,2,10,10,ash\n", stock)
+        why = "ash: the stock is used up: there is no room for 1 of 2 panels, as 'b #2', 10 x 10"
+        self.assertEqual(refused, (1, why))
 
     def test_offcuts_of_which_there_are_none(self) -> None:
         """A table with nothing but its head says nothing of materials."""

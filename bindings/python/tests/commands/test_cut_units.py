@@ -64,7 +64,7 @@ class Plans(Case):
         [text] = run.sheets()
         lines = text.splitlines()
         self.assertEqual(lines[:3], ["Sheet 1 of 1: ply, 48 1/2 x 24 1/2 in", "Job panels", "Kerf 1/8, trim 0"])
-        self.assertIn("Sizes are in in, width by height", text)
+        self.assertIn("Sizes are in inches, width by height", text)
         self.assertNotIn("mm", text)
         self.assertIn('-> panel "side #1" 23 5/8 x 15 3/4', text)
         # 24 1/2 - 15 3/4 - 1/8 is 8 5/8 above both, or above one of them.
@@ -137,7 +137,7 @@ class Plans(Case):
         run = self.cut(panels, "--stock", stock, "--kerf", "3")
         self.assertEqual((run.status, run.err), (2, f"{panels}:2: width is '24 3/4', and must be a number\n"))
         run = self.cut(panels, "--stock", stock, "--kerf", "1/10", "--unit", "in")
-        self.assertEqual(run.err, "--kerf is '1/10', and must be a number in in that is not negative\n")
+        self.assertEqual(run.err, "--kerf is '1/10', and must be a number in inches that is not negative\n")
 
 
 if __name__ == "__main__":

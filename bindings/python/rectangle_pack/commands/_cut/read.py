@@ -46,7 +46,7 @@ def _number(option: str, text: str, unit: Unit) -> Decimal:
     """A number of an option. Decimals may have a comma before them."""
     number = unit.number(text)
     if number is None or number < 0:
-        raise Wrong(f"{option} is {text!r}, and must be a number in {unit.name} that is not negative")
+        raise Wrong(f"{option} is {text!r}, and must be a number in {unit.plural} that is not negative")
     if why := why_not(number):
         raise Wrong(f"{option} is {text}, and {why}")
     return number
@@ -56,7 +56,7 @@ def sizes_of(unit: Unit, kerf: str, trim: str, keep: str | None, trims_offcuts: 
     """What the options --unit, --kerf, --trim and --keep say."""
     sides = (unit.keep if keep is None else keep).lower().split("x")
     if len(sides) != 2:
-        raise Wrong(f"--keep is {keep!r}, and must be a width and a height in {unit.name}, as {unit.keep}")
+        raise Wrong(f"--keep is {keep!r}, and must be a width and a height in {unit.plural}, as {unit.keep}")
     shorter, longer = sorted(_number("--keep", side, unit) for side in sides)
     return Sizes(unit, _number("--kerf", kerf, unit), _number("--trim", trim, unit), (longer, shorter), trims_offcuts)
 

@@ -18,12 +18,12 @@ each heuristic. Offcuts that cost nothing are filled first.
 from __future__ import annotations
 
 from collections.abc import Sequence
-from dataclasses import replace
 from fractions import Fraction
 
 from ... import Heuristic
 from .._common import NoRoom
-from .job import Job, Kind, Panel
+from .fits import check_each_fits, holds
+from .job import Job, Kind
 from .packing import Filled
 from .score import Answer
 from .sets import SheetSet, area_needed, area_of, cheaper_sets, frontier, kinds_by_cost, most_of
@@ -43,7 +43,7 @@ class _Search:
     def __init__(self, job: Job, trials: Trials) -> None:
         self.job, self.trials = job, trials
         # The offcuts that cost nothing, as single sheets, and the kinds that are bought.
-        given = [kind for kind in job.kinds if kind.is_given and any(_holds(kind, panel) for panel in job.panels)]
+        given = [kind for kind in job.kinds if kind.is_given and any(holds(kind, panel) for panel in job.panels)]
         self.given = [kind for kind in given for _ in range(most_of(kind, len(job.panels)))]
         self.bought = kinds_by_cost(job.kinds, job.kerf)
         self.failed: list[tuple[SheetSet, Answer]] = []
@@ -159,33 +159,17 @@ def _panel_area(sheet: Filled) -> int:
     return sum(it.panel.area for it in sheet.laid)
 
 
-def _holds(kind: Kind, panel: Panel) -> bool:
-    return kind.takes(panel.width, panel.height) or panel.is_free and kind.takes(panel.height, panel.width)
-
-
 def _used_up(job: Job, nearest: Answer) -> NoRoom:
     """Why there is no packing, where each panel fits some sheet."""
     left = nearest.packed.left
     largest = max((it.panel for it in left), key=lambda panel: panel.area)
     size = job.lengths.size(largest.width, largest.height)
     count = f"{len(left)} of {len(job.panels)} panels"
-    return NoRoom(f"the stock is used up: there is no room for {count}, as {largest.name!r}, {size}")
-
-
-def _check_each_fits(job: Job) -> None:
-    """Raises NoRoom where a panel is larger than each of the sheets."""
-    kinds = [kind for kind in job.kinds if kind.count != 0]
-    for panel in job.panels:
-        if not any(_holds(kind, panel) for kind in kinds):
-            size = job.lengths.size(panel.width, panel.height)
-            turned = any(kind.takes(panel.height, panel.width) for kind in kinds)
-            why = "fits a sheet only when it is turned, and it keeps its direction" if turned else "fits no sheet"
-            if any(_holds(replace(kind, trim=0), panel) for kind in kinds):
-                why = "fits no sheet once --trim is off its edges"
-            raise NoRoom(f"the panel {panel.name!r} of line {panel.line}, {size}, {why}")
+    of = f"{job.of}: " if job.of else ""
+    return NoRoom(f"{of}the stock is used up: there is no room for {count}, as {largest.name!r}, {size}")
 
 
 def search(job: Job, heuristics: Sequence[Heuristic], tries: int, watch: Watch) -> list[Filled]:
     """The sheets with their panels. The watch is told of each try. Raises NoRoom."""
-    _check_each_fits(job)
+    check_each_fits(job)
     return _Search(job, Trials(job, heuristics, tries, watch)).run()

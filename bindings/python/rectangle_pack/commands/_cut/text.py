@@ -12,7 +12,7 @@ from .unit import Unit
 __all__ = ["counted", "heading", "plan_text", "stem_of", "sums_text"]
 
 HOW_TO_READ = """\
-Sizes are in {name}, width by height: the width runs to the right, the height upwards, as in the drawing.
+Sizes are in {unit}, width by height: the width runs to the right, the height upwards, as in the drawing.
 "across x at {at}": the blade runs from top to bottom; {at} is from the part's left edge to the near side of the blade.
 "across y at {at}": the blade runs from left to right; {at} is from the part's lower edge to the near side of the blade.
 "trim 10 off the left": 10 is what goes, the blade's width included.
@@ -21,7 +21,7 @@ Each cut goes through the whole part. Parts that are cut on have letters: mark t
 
 
 def how_to_read(unit: Unit) -> str:
-    return HOW_TO_READ.format(name=unit.name, at=unit.example)
+    return HOW_TO_READ.format(unit=unit.plural, at=unit.example)
 
 
 def heading(result: Result, plan: SheetPlan) -> str:

@@ -22,6 +22,8 @@ class Unit:
     """In what lengths are read and written."""
 
     name: str
+    # As it is called in a sentence.
+    plural: str
     # How many mm it has.
     mm: Decimal
     # What a number has to be, for who wrote another.
@@ -55,8 +57,8 @@ def _fraction(sign: str, whole: int, part: int, parts: int) -> Decimal | None:
     return -number if sign else number
 
 
-MM = Unit("mm", Decimal(1), "a number", "200x200", "600", ("m", 1000))
-INCHES = Unit("in", Decimal("25.4"), "a number of inches, as 24 3/4 or 24.75", "8x8", "24", ("in", 1), True)
+MM = Unit("mm", "mm", Decimal(1), "a number", "200x200", "600", ("m", 1000))
+INCHES = Unit("in", "inches", Decimal("25.4"), "a number of inches, as 24 3/4 or 24.75", "8x8", "24", ("in", 1), True)
 
 UNITS = {unit.name: unit for unit in (MM, INCHES)}
 
