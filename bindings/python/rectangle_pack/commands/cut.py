@@ -42,7 +42,7 @@ tables (CSV; the first line names the columns, in any order; separated by comma,
   --offcuts name,count,width,height,cost      name, count (1) and cost (0) may be left out;
               birch 18 1-2,1,700,396.8,0      offcuts.csv of an earlier run is such a table
 
-  count may be called qty, quantity, pieces, pcs or amount; name: part, panel, sheet, label or description; cost: price.
+  count may be called qty, quantity, pieces or pcs; name: panel, sheet or offcut, part, label or description; cost: price.
   Where the sides are called length and width, the length lies along x. Other columns are passed over.
 
   All tables may have a column material, one thickness, or both. Then panels are cut from sheets of the same material and
@@ -152,37 +152,54 @@ def _searched(job: Job, options: argparse.Namespace, watch: Watch) -> tuple[Sequ
         watch.end()
 
 
-def _plan(work: Work, options: argparse.Namespace) -> tuple[Results, str]:
-    """Plans one job after the other, until the user ends that; and a line that says so. Those without a plan have no sheets."""
-    results, stopped = list[Result](), ""
+def _search_all(work: Work, options: argparse.Namespace) -> tuple[list[Sequence[Filled]], str]:
+    """The sheets of one job after the other, until the user ends that; and a line that says so. Those that are not begun then
+    have no sheets."""
     # Before the first search, which may take long.
     for job in work.jobs:
         check_each_fits(job)
+    found, stopped = list[Sequence[Filled]](), ""
     for job in work.jobs:
         filled: Sequence[Filled] = ()
         if not stopped:
             watch = Watch(job, options.tries)
             filled, was_stopped = _searched(job, options, watch)
             stopped = f"stopped after {watch.used} of {options.tries} tries: the plan is the best so far" if was_stopped else ""
-        results.append(Result(job, alike_of(job, filled)))
-    if stopped and not any(it.alike for it in results):
+        found.append(filled)
+    if not any(found):
         raise KeyboardInterrupt
-    without = ", ".join(it.job.of for it in results if not it.alike)
-    return Results(work, [*results, *map(Result, work.idle)]), stopped + (f"; no plan of {without}" if without else "")
+    without = ", ".join(job.of for job, filled in zip(work.jobs, found) if not filled)
+    return found, stopped + (f"; no plan of {without}" if without else "")
+
+
+def _write(work: Work, found: Sequence[Sequence[Filled]], options: argparse.Namespace) -> tuple[Results, list[Path]]:
+    """Writes the plans of all sheets, and answers which files these are."""
+    results = Results(work, [
+        *(Result(job, alike_of(job, filled)) for job, filled in zip(work.jobs, found)), *map(Result, work.idle)])
+    files = files_of(results, not options.no_pdf)
+    write_all(options.out, files)
+    if options.page:
+        from .view import write_page
+        write_page(scene_of(results), options.page)
+    return results, [options.out / name for name in files]
 
 
 def run(options: argparse.Namespace) -> int:
     """Plans, draws and writes."""
     _check(options)
     refuse_over(options.page, options.panels, options.stock, *options.offcuts)
-    results, stopped = _plan(_work(options), options)
-    files = files_of(results, not options.no_pdf)
-    write_all(options.out, files)
-    if options.page:
-        from .view import write_page
-        write_page(scene_of(results), options.page)
+    work = _work(options)
+    found, stopped = _search_all(work, options)
+    try:
+        results, files = _write(work, found, options)
+    except KeyboardInterrupt:
+        # Who stops it again means it.
+        if stopped:
+            raise
+        stopped = "stopped when the search had ended: the plans are whole"
+        results, files = _write(work, found, options)
     if options.json:
-        print_json({**as_json(results), "files": [str(options.out / name) for name in files]})
+        print_json({**as_json(results), "files": [*map(str, files)]})
     else:
         print(sums_text(results))
         print(f"{len(files)} files written to {options.out}")

@@ -11,8 +11,10 @@ import sys
 import time
 import unittest
 from collections.abc import Sequence
+from pathlib import Path
 from unittest import mock
 
+from rectangle_pack.commands._cut.files import write_all
 from rectangle_pack.commands._cut.job import Job, Kind, Material
 from rectangle_pack.commands._cut.packing import Filled
 from rectangle_pack.commands._cut.unit import Lengths
@@ -86,6 +88,22 @@ class Stopped(Case):
         self.assertTrue(run.out.startswith("50 panels from "), run.out)
         self.assertTrue((self.folder / "page.html").exists() and (run.folder / "offcuts.csv").exists())
         check_panels(self, rows_of(PANELS), saw_all(run, 3))
+
+    def test_all_is_written_when_it_is_stopped_late(self) -> None:
+        """Once more, and then it ends. Who stops it again means it."""
+        paths = [self.write("p.csv", PANELS), "--stock", self.write("s.csv", STOCK), "--kerf", 3, "--no-pdf", "--tries", 1]
+        for times, files in ((1, True), (2, False)):
+            stops = iter([KeyboardInterrupt()] * times)
+
+            def late(folder: Path, files: dict[str, bytes | str]) -> None:
+                for it in stops:
+                    raise it
+                write_all(folder, files)
+
+            with mock.patch("rectangle_pack.commands.cut.write_all", late):
+                run = run_cut(self.folder / f"plan{times}", *paths)
+            self.assertEqual((run.status, run.folder.exists()), (130, files))
+            self.assertEqual(run.err, "stopped when the search had ended: the plans are whole\n" * files)
 
     def test_nothing_is_written_where_there_is_no_plan(self) -> None:
         # A first try has no room: all lie, and three only fit where one stands.

@@ -4,6 +4,7 @@ from __future__ import annotations
 from collections.abc import Callable, Sequence
 from dataclasses import dataclass, replace
 from decimal import Decimal
+from functools import partial
 from pathlib import Path
 
 from .._common import Wrong
@@ -16,10 +17,9 @@ __all__ = ["Line", "Table", "panel_table", "printable", "sheet_table", "why_not"
 # What stands in the column grain: whether the panel keeps its direction.
 GRAIN = {"keep": True, "yes": True, "free": False, "no": False}
 
-# Other names of columns.
+# Other names of columns. A name may also be called by what a line stands for: panel, sheet, offcut.
 OTHER_NAMES = {
-    "count": ("qty", "quantity", "pieces", "pcs", "amount"), "name": ("part", "panel", "sheet", "label", "description"),
-    "cost": ("price",),
+    "count": ("qty", "quantity", "pieces", "pcs"), "name": ("part", "label", "description"), "cost": ("price",),
 }
 
 
@@ -62,12 +62,12 @@ def printable(text: str) -> str:
     return "".join(letter if letter.isprintable() else "?" for letter in " ".join(text.split()))
 
 
-def _renamed(names: Sequence[str]) -> list[str]:
+def _renamed(what: str, names: Sequence[str]) -> list[str]:
     """The names of columns, those that are known by another name as they are called here: the first of several, and none where
     the column has its own name too. Where the sides are length and width, the length lies along x."""
     known = list(names)
     for column, others in OTHER_NAMES.items():
-        found = [name for name in known if name in others]
+        found = [name for name in known if name in others or (column, name) == ("name", what)]
         if found and column not in known:
             known[known.index(found[0])] = column
     if "length" in known and "width" in known and "height" not in known:
@@ -76,9 +76,9 @@ def _renamed(names: Sequence[str]) -> list[str]:
     return known
 
 
-def _read(path: Path, columns: Sequence[str], optional: Sequence[str], line_of: Callable[[Row], Line]) -> Table:
+def _read(path: Path, what: str, columns: Sequence[str], optional: Sequence[str], line_of: Callable[[Row], Line]) -> Table:
     passed: list[str] = []
-    rows = read_table(path, columns, (*optional, "material", "thickness"), _renamed, passed)
+    rows = read_table(path, columns, (*optional, "material", "thickness"), partial(_renamed, what), passed)
     if "length" in passed:
         raise Wrong("the column 'length' is one too many beside 'width' and 'height', which are the two sides", path, 1)
     return Table(path, [line_of(row) for row in rows], passed)
@@ -126,16 +126,16 @@ def panel_table(path: Path, unit: Unit) -> Table:
         line, grain = _line(row, "panel", unit, 1), row.choice("grain", tuple(GRAIN), "free")
         return replace(line, is_free=not GRAIN[grain])
 
-    return _read(path, ("width", "height"), ("name", "count", "grain"), line_of)
+    return _read(path, "panel", ("width", "height"), ("name", "count", "grain"), line_of)
 
 
 def sheet_table(path: Path, unit: Unit, is_offcut: bool) -> Table:
     """The stock, or offcuts. Of an offcut there is one, where the table does not say more; of a sheet there are as many as are
     needed."""
     def line_of(row: Row) -> Line:
-        line = _line(row, "offcut", unit, 1) if is_offcut else _line(row, "sheet", unit, None)
+        line = _line(row, what, unit, 1 if is_offcut else None)
         cost = _exact(row, "cost", Decimal(0) if is_offcut else None)
         return replace(line, cost=cost, is_offcut=is_offcut)
 
-    columns = ("width", "height") if is_offcut else ("width", "height", "cost")
-    return _read(path, columns, ("name", "count", "cost"), line_of)
+    what, columns = ("offcut", ("width", "height")) if is_offcut else ("sheet", ("width", "height", "cost"))
+    return _read(path, what, columns, ("name", "count", "cost"), line_of)
