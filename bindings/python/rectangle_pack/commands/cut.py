@@ -164,7 +164,7 @@ def _search_all(work: Work, options: argparse.Namespace) -> tuple[list[Sequence[
         if not stopped:
             watch = Watch(job, options.tries)
             filled, was_stopped = _searched(job, options, watch)
-            stopped = f"stopped after {watch.used} of {options.tries} tries: the plan is the best so far" if was_stopped else ""
+            stopped = f"stopped after {watch.count}: the plan is the best so far" if was_stopped else ""
         found.append(filled)
     if not any(found):
         raise KeyboardInterrupt

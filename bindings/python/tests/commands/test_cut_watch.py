@@ -5,6 +5,7 @@ import contextlib
 import io
 import os
 import pty
+import select
 import signal
 import subprocess
 import sys
@@ -37,12 +38,12 @@ class Screen(io.StringIO):
 
 
 class Lines(unittest.TestCase):
-    def told(self, stream: io.StringIO, moments: Sequence[float], material: str = "") -> str:
+    def told(self, stream: io.StringIO, moments: Sequence[float], material: str = "", tries: int = 200) -> str:
         """What is written where tries end at these moments. From the second on there is a plan."""
         clock = iter([0.0, *moments])
         with contextlib.redirect_stderr(stream):
             job = Job([], [], 0, (0, 0), Lengths(), Scale(1), material=Material(material, "18" if material else ""))
-            watch = Watch(job, 200, lambda: next(clock))
+            watch = Watch(job, tries, lambda: next(clock))
             for used in range(1, len(moments) + 1):
                 watch.tried(used, [SHEET] * (used - 1))
             watch.end()
@@ -54,6 +55,10 @@ class Lines(unittest.TestCase):
             "7 of 200 tries, best so far: 6 sheets, cost 75\n"))
         self.assertEqual(self.told(io.StringIO(), [31], "birch"), "birch 18 mm: 1 of 200 tries, no plan so far\n")
         self.assertEqual(self.told(io.StringIO(), [1, 2, 3]), "")
+
+    def test_more_tries_than_were_asked_for(self) -> None:
+        """The first turnings are tried in any case."""
+        self.assertEqual(self.told(io.StringIO(), [1, 2, 31], tries=2), "3 of 3 tries, best so far: 2 sheets, cost 25\n")
 
     def test_a_line_that_goes_on(self) -> None:
         with mock.patch.dict(os.environ, {"COLUMNS": "61"}):
@@ -145,8 +150,8 @@ class Stopped(Case):
                 preexec_fn=lambda: signal.signal(signal.SIGINT, signal.default_int_handler) and None) as run:
             os.close(end)
             seen, until = b"", time.monotonic() + 60
-            while b"best so far" not in seen and time.monotonic() < until:
-                seen += os.read(screen, 1000)
+            while b"best so far" not in seen and run.poll() is None and time.monotonic() < until:
+                seen += os.read(screen, 1000) if select.select([screen], [], [], 0.1)[0] else b""
             run.send_signal(signal.SIGINT)
             out, _ = run.communicate(timeout=60)
         with contextlib.suppress(OSError):
