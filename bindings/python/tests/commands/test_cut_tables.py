@@ -237,15 +237,5 @@ class Refusals(Case):
         self.assertIn("python3 -m rectangle_pack cut panels.csv --stock sheets.csv", run.stdout)
 
 
-class Sums(Case):
-    def test_what_is_printed(self) -> None:
-        # 2 x 5000 of 3 x 6000 mm2 is kept as panels; each sheet leaves 100x10, too small to keep.
-        run = self.cut_tables(f"{HEAD}a,2,100,50,keep\n", f"{SHEETS}s,,100,60,1.25\n", "--kerf", 0)
-        self.assertEqual(run.out.splitlines(), [
-            "2 panels from 2 sheets, cost 2.5", "  2 x s, 100 x 60, cost 2.5", "  sheets 1 to 2: 2 times this sheet",
-            "waste 16.7 %; 0 offcuts kept, 0.0 %", "2 cuts of 0.2 m together", f"4 files written to {run.folder}"])
-        self.assertEqual(rows_of((run.folder / "offcuts.csv").read_text(encoding="utf-8")), [])
-
-
 if __name__ == "__main__":
     unittest.main()
