@@ -111,9 +111,10 @@ class _Drawing:
             panel = part.laid.panel
             tail = part.name[len(panel.title):]
             self.part(part, colour_of(panel.key), INK, str(panel.key), (panel.title, tail))
+        # That it is an offcut is seen by its edges: so there is more room for the name.
         for part in self.plan.offcuts:
             key = offcut_key(part)
-            self.part(part, "#ffffff", KEPT, key, (f"offcut {part.name[:-len(key) - 1]}", f" {key}"))
+            self.part(part, "#ffffff", KEPT, key, (part.name[:-len(key) - 1], f" {key}"))
 
     def blade(self, cut: Cut) -> Area:
         """What the blade takes, widened where it would not be seen."""
