@@ -3,15 +3,17 @@ from __future__ import annotations
 
 import argparse
 from collections.abc import Sequence
+from dataclasses import dataclass
 from pathlib import Path
 
 from ._common import DONE, progress, refuse_over, write
 from ._sheet.files import find, refuse_output_in
 from ._sheet.index import FORMATS, refuse_name
+from ._sheet.numbered import Animation, animations_of, refuse_equal_indices
 from ._sheet.options import Options, add_words, options_of
 from ._sheet.pictures import check_pillow, drawn_page
 from ._sheet.report import print_lines, print_sheets, scene_of
-from ._sheet.sheets import Sheet, sheets_of
+from ._sheet.sheets import Sheet, at_scale, sheets_of
 from ._sheet.sprites import Stored, read_sprites
 
 __all__ = ["add_to"]
@@ -28,16 +30,25 @@ def run(words: argparse.Namespace) -> int:
     """Runs the command. Nothing is written before all pages are drawn."""
     options = options_of(words)
     check_pillow()
-    sheets = sheets_of(options.output.name, _read(options), options.rules, options.heuristic)
-    images = [
-        drawn_page(sheet.size, [(it.picture, corner) for it, corner in sheet.stored], options.rules.extrude)
-        for sheet in progress(sheets, len(sheets), "drawing")]
-    files = _write(options, sheets, images)
+    packed = sheets_of(options.output.name, _read(options), options.rules, options.heuristic)
+    scaled = [_Scaled(f"{options.output.name}{scale.suffix}", [at_scale(sheet, scale) for sheet in packed])
+              for scale in options.scales]
+    images = _drawn(options, [sheet for it in scaled for sheet in it.sheets])
+    files = _write(options, scaled, images)
+    animations = _animations(options, packed)
     if options.as_json:
-        print_sheets(sheets, files)
+        print_sheets(scaled[0].sheets, animations, files)
     else:
-        print_lines(sheets, files)
+        print_lines([sheet for it in scaled for sheet in it.sheets], animations, files)
     return DONE
+
+
+@dataclass(frozen=True)
+class _Scaled:
+    """The pages at a scale, and the name of their files."""
+
+    name: str
+    sheets: Sequence[Sheet]
 
 
 def _read(options: Options) -> list[Stored]:
@@ -48,20 +59,37 @@ def _read(options: Options) -> list[Stored]:
     refuse_name(options.output.name, options.output, options.formats)
     for source in sources:
         refuse_name(source.name, source.path, options.formats)
+    if options.naming.indices:
+        refuse_equal_indices(sources)
     return read_sprites(sources, options.rules, options.trim, options.alias, options.group_by)
 
 
-def _write(options: Options, sheets: Sequence[Sheet], images: Sequence[bytes]) -> list[Path]:
-    """Writes the pages, then each index, and then the page to look at. Which files these are."""
-    folder, name = options.output.parent, options.output.name
+def _drawn(options: Options, sheets: Sequence[Sheet]) -> list[bytes]:
+    """The PNG file of each page."""
+    return [
+        drawn_page(
+            sheet.size, [(it.picture, corner) for it, corner in sheet.stored], sheet.scale.of(options.rules.extrude))
+        for sheet in progress(sheets, len(sheets), "drawing")]
+
+
+def _animations(options: Options, sheets: Sequence[Sheet]) -> list[Animation]:
+    """The animations of the index for PixiJS, where it is asked for."""
+    return animations_of(sheets) if options.naming.animations and "json-hash" in options.formats else []
+
+
+def _write(options: Options, scaled: Sequence[_Scaled], images: Sequence[bytes]) -> list[Path]:
+    """Writes the pages, then each index, and then the page to look at, which has the first scale. Which files these are."""
+    folder, sheets = options.output.parent, [sheet for it in scaled for sheet in it.sheets]
     contents: dict[Path, bytes | str] = {folder / sheet.image: image for sheet, image in zip(sheets, images)}
     for format in options.formats:
-        contents.update((folder / file, text) for file, text in FORMATS[format](name, sheets).items())
+        for it in scaled:
+            texts = FORMATS[format](it.name, it.sheets, options.naming)
+            contents.update((folder / file, text) for file, text in texts.items())
     for path, content in contents.items():
         write(path, content)
     if options.page is not None:
         from .view import write_page
 
-        write_page(scene_of(name, sheets, images), options.page)
+        write_page(scene_of(options.output.name, scaled[0].sheets, images), options.page)
         return [*contents, options.page]
     return list(contents)

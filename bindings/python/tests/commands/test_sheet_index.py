@@ -200,13 +200,23 @@ class Said(SheetCase):
         self.assertRegex(page, r"/x\.png: (10x40|40x10), 3 sprites, 2 stored, 100 % filled$")
         self.assertEqual(index, str(self.out / "x.json"))
 
+    def test_what_is_filled_is_rounded_down(self) -> None:
+        # 3 x 3 and 2 x 5 are at least on a page of 5x5, of which they fill 19 of 25: 76 %. One pixel of 45x45 is 0.04 %.
+        self.write({"a": full(3, 3), "b": full(2, 5)})
+        self.assertIn(": 5x5, 2 sprites, 76 % filled\n", run(self.source, "-o", self.out / "x", "--padding", 0).out)
+        self.clean()
+        self.write({"a": full(1, 1)})
+        for side, part in ((3, "11.1"), (45, "under 0.1")):
+            done = run(self.source, "-o", self.out / "x", "--border", (side - 1) // 2)
+            self.assertIn(f": {side}x{side}, 1 sprite, {part} % filled\n", done.out)
+
     def test_json(self) -> None:
         self.write(PICTURES)
         words = ("--trim", "--size", "128x128", "--json", "--heuristic", "height")
         done = run_alone(self.source, "-o", self.out / "atlas", *words)
         self.assertEqual((done.status, done.err), (0, ""))
         said, atlas = json.loads(done.out), read_atlas(self.out)
-        self.assertEqual(keys(said), {"pages", "sprites", "files"})
+        self.assertEqual(keys(said), {"pages", "sprites", "animations", "files"})
         begin, count = [Path(file).read_bytes()[:1] for file in said["files"]], len(atlas.pages)
         self.assertEqual(begin, [b"\x89"] * count + [b"{"] * count)
         for page, picture, meta in zip(said["pages"], atlas.pages, atlas.metas):
@@ -223,6 +233,7 @@ class Said(SheetCase):
             cells = sum(it.width * it.height for it in frames.values() if it.page == number)
             self.assertAlmostEqual(page["filled"], cells / (page["width"] * page["height"]), places=3)
             self.assertEqual(page["stored"], sum(it.page == number for it in frames.values()))
+            self.assertEqual(page["scale"], 1)
 
     def test_json_of_aliases(self) -> None:
         self.write({"b": full(4, 4), "a": full(4, 4)})

@@ -50,8 +50,8 @@ class Packing(unittest.TestCase):
         r = random.Random(3)
         for _ in range(60):
             side, grouped = r.choice((24, 40)), r.random() < 0.5
-            margins = [r.randint(0, 3), r.randint(0, 2), r.randint(0, 2)]
-            rules = PageRules((side, side + r.randint(0, 9)), r.random() < 0.3, *margins)
+            padding, border, extrude = r.randint(0, 3), r.randint(0, 2), r.randint(0, 2)
+            rules = PageRules((side, side + r.randint(0, 9)), r.random() < 0.3, padding, border, extrude)
             most = min(rules.most_for_one)
             boxes = [
                 rules.box((r.randint(1, most // 2), r.randint(1, most // 2)), r.choice(["", *"abcdef"]) if grouped else "")

@@ -139,7 +139,8 @@ class Room(RefusalCase):
             NO_ROOM, "IN/long.png: is 90x5, and a page of 95x95 takes 89x89 at most",
             "--size", "95", "--border", 1, "--extrude", 2)
         self.check(
-            NO_ROOM, "IN/long.png: is 90x5, and a page of 64x64 takes 64x64 at most", "--size", "100x100", "--power-of-two")
+            NO_ROOM, "IN/long.png: is 90x5, and a page of 64x64 takes 64x64 at most (64 is the greatest power of two up to 100)",
+            "--size", "100x100", "--power-of-two")
 
     def test_larger_than_a_page_also_trimmed(self) -> None:
         self.write({"long": framed(full(90, 5), 1, 1, 1, 1)})

@@ -165,9 +165,10 @@ def read_page(path: Path) -> Picture:
         return Picture(image.width, image.height, image.tobytes())
 
 
-def read_atlas(folder: Path, name: str = "atlas") -> Atlas:
-    single = folder / f"{name}.json"
-    files = [single] if single.exists() else sorted(folder.glob(f"{name}-*.json"), key=lambda it: int(it.stem.split("-")[-1]))
+def read_atlas(folder: Path, name: str = "atlas", suffix: str = "") -> Atlas:
+    single = folder / f"{name}{suffix}.json"
+    several = folder.glob(f"{name}-*{suffix}.json")
+    files = [single] if single.exists() else sorted(several, key=lambda it: int(it.stem.split("@")[0].split("-")[-1]))
     pages, frames, metas = [], {}, []
     for number, file in enumerate(files):
         index = json.loads(file.read_text(encoding="utf-8"))

@@ -8,6 +8,7 @@ from decimal import Decimal
 from fractions import Fraction
 from typing import Any
 
+from .._filled import filled_text
 from .._scene import Item, Room, Scene
 from .._scene import Step as SceneStep
 from .job import Job
@@ -26,10 +27,15 @@ AXES = "x from the right wall, as one looks in at the door; y up from the floor;
 MOST_NAMED = 4
 
 
-def percent(part: Fraction) -> str:
-    """Percent with one decimal, rounded down: what is not whole is not said to be."""
+def filled(part: Fraction) -> str:
+    """As it is told: 76.1 %"""
+    return filled_text(part.numerator, part.denominator)
+
+
+def _percent(part: Fraction) -> int | float:
+    """Percent with one decimal, rounded down as in the text."""
     tenths = part.numerator * 1000 // part.denominator
-    return f"{tenths // 10}.{tenths % 10}".removesuffix(".0")
+    return tenths / 10 if tenths % 10 else tenths // 10
 
 
 def _number(text: str) -> int | float:
@@ -70,7 +76,7 @@ def stands_on(step: Step) -> str:
 def _text_of(job: Job, it: LoadedContainer) -> str:
     wide, high, long = map(job.told, it.container.room)
     head = (f"{it.name}: {wide} wide, {high} high, {long} long; {counted(len(it.steps), 'crate')}, "
-            f"{percent(it.filled)} % filled, {job.told(it.length)} of the length in use")
+            f"{filled(it.filled)} filled, {job.told(it.length)} of the length in use")
     return "\n".join([head, "", *table([HEAD, *(cells(job, step, stands_on(step)) for step in it.steps)])])
 
 
@@ -80,7 +86,7 @@ def as_text(report: Report) -> str:
     costs = [f"cost {report.cost:f}"] if job.has_costs else []
     sums = [
         counted(len(report.containers), "container"), *costs, counted(report.crates, "crate"),
-        f"{percent(report.filled)} % filled"]
+        f"{filled(report.filled)} filled"]
     unit = f", in {job.unit}" if job.unit else ""
     return "\n\n".join([AXES + unit, *(_text_of(job, it) for it in report.containers), ", ".join(sums)])
 
@@ -108,7 +114,7 @@ def _json_container(job: Job, it: LoadedContainer) -> dict[str, Any]:
     wide, high, long = (_number(job.told(side)) for side in it.container.room)
     return {
         "name": it.name, "kind": it.container.name, "wide": wide, "high": high, "long": long,
-        "cost": _number(f"{it.container.cost:f}") if job.has_costs else None, "filled": _number(percent(it.filled)),
+        "cost": _number(f"{it.container.cost:f}") if job.has_costs else None, "filled": _percent(it.filled),
         "length_in_use": _number(job.told(it.length)), "steps": [_json_step(job, step) for step in it.steps]}
 
 
@@ -119,7 +125,7 @@ def as_json(report: Report) -> dict[str, Any]:
     return {
         "unit": job.unit, "together": job.together, "apart": [list(pair) for pair in apart],
         "cost": _number(f"{report.cost:f}") if job.has_costs else None, "crates": report.crates,
-        "filled": _number(percent(report.filled)), "containers": [_json_container(job, it) for it in report.containers]}
+        "filled": _percent(report.filled), "containers": [_json_container(job, it) for it in report.containers]}
 
 
 def _cell_unit(job: Job) -> str:
@@ -142,7 +148,7 @@ def scene_of(report: Report, title: str) -> Scene:
             item = Item(number, crate.kind.name, it.name, corner, crate.turn[:3], crate.kind.customer, note)
             steps.append(SceneStep(text, [item]))
     facts = [
-        ("containers", str(len(report.containers))), ("crates", str(report.crates)), ("filled", f"{percent(report.filled)} %"),
+        ("containers", str(len(report.containers))), ("crates", str(report.crates)), ("filled", filled(report.filled)),
         *([("cost", f"{report.cost:f}")] if job.has_costs else [])]
     rooms = [Room(it.name, it.container.room) for it in report.containers]
     return Scene(title, rooms, steps, unit=_cell_unit(job), facts=facts)

@@ -7,6 +7,7 @@ from pathlib import Path
 from typing import Any
 
 from .._common import Wrong
+from .numbered import Animation, Naming, animations_of, numbered
 from .rules import Size
 from .sheets import Frame, Sheet
 
@@ -43,58 +44,69 @@ def _json(value: Any, depth: int) -> str:
     return "[\n" + ",\n".join(_json(part, depth - 1) for part in value) + "\n]"
 
 
-def _json_hash(name: str, sheets: Sequence[Sheet]) -> dict[str, str]:
+def _animations(found: Sequence[Animation], page: int) -> dict[str, Any]:
+    """The animations of a page. PixiJS looks for their frames on that page alone, so each is whole there, or left out."""
+    whole = {it.name: list(it.frames) for it in found if it.pages == [page]}
+    return {"animations": whole} if whole else {}
+
+
+def _json_hash(name: str, sheets: Sequence[Sheet], naming: Naming) -> dict[str, str]:
     """A file for each page. Each names those of the other pages, which PixiJS loads with it."""
     files = [Path(sheet.image).stem + ".json" for sheet in sheets]
+    found = animations_of(sheets) if naming.animations else []
     texts = {}
-    for file, sheet in zip(files, sheets):
+    for page, (file, sheet) in enumerate(zip(files, sheets)):
         meta: dict[str, object] = {
             "app": "rectangle_pack", "version": "1.0", "image": sheet.image, "format": "RGBA8888",
-            "size": _size(sheet.size), "scale": "1",
+            "size": _size(sheet.size), "scale": sheet.scale.text,
         }
         others = [other for other in files if other != file]
         if others:
             meta["related_multi_packs"] = others
-        texts[file] = _json({"frames": {it.sprite.name: _frame(it) for it in sheet.frames}, "meta": meta}, 2) + "\n"
+        frames = {it.sprite.name: _frame(it) for it in sheet.frames}
+        texts[file] = _json({"frames": frames, **_animations(found, page), "meta": meta}, 2) + "\n"
     return texts
 
 
-def _phaser_multi(name: str, sheets: Sequence[Sheet]) -> dict[str, str]:
+def _phaser_multi(name: str, sheets: Sequence[Sheet], naming: Naming) -> dict[str, str]:
     """One file for all pages."""
     textures = [{
-        "image": sheet.image, "format": "RGBA8888", "size": _size(sheet.size), "scale": 1,
+        "image": sheet.image, "format": "RGBA8888", "size": _size(sheet.size),
+        "scale": sheet.scale.number,
         "frames": [{"filename": it.sprite.name, **_frame(it)} for it in sheet.frames],
     } for sheet in sheets]
     index = {"textures": textures, "meta": {"app": "rectangle_pack", "version": "3.0"}}
     return {f"{name}.phaser.json": _json(index, 4) + "\n"}
 
 
-def _region(frame: Frame) -> list[str]:
+def _region(frame: Frame, naming: Naming) -> list[str]:
     """A sprite in an .atlas. What was trimmed is counted from the lower edge there."""
     sprite = frame.sprite
+    name, index = (naming.indices and numbered(sprite.name)) or (sprite.name, -1)
     below = sprite.whole[1] - sprite.size[1] - sprite.corner[1]
     return [
-        sprite.name,
+        name,
         "  rotate: false",
         "  xy: {}, {}".format(*frame.corner),
         "  size: {}, {}".format(*sprite.size),
         "  orig: {}, {}".format(*sprite.whole),
         f"  offset: {sprite.corner[0]}, {below}",
-        "  index: -1",
+        f"  index: {index}",
     ]
 
 
-def _libgdx(name: str, sheets: Sequence[Sheet]) -> dict[str, str]:
+def _libgdx(name: str, sheets: Sequence[Sheet], naming: Naming) -> dict[str, str]:
     """One file for all pages, in the older form, which all versions of libGDX load."""
     pages = []
     for sheet in sheets:
         head = [sheet.image, "size: {},{}".format(*sheet.size), "format: RGBA8888", "filter: Nearest,Nearest", "repeat: none"]
-        pages.append("".join(f"{line}\n" for line in [*head, *(line for it in sheet.frames for line in _region(it))]))
+        pages.append("".join(f"{line}\n" for line in [*head, *(line for it in sheet.frames for line in _region(it, naming))]))
     return {f"{name}.atlas": "\n".join(pages)}
 
 
-# Each is given the name of all files and the pages, and answers what files there are and what is in them.
-FORMATS: Mapping[str, Callable[[str, Sequence[Sheet]], dict[str, str]]] = {
+# Each is given the name of all files, the pages, and what is made of names that end in numbers; and answers what files there
+# are and what is in them.
+FORMATS: Mapping[str, Callable[[str, Sequence[Sheet], Naming], dict[str, str]]] = {
     "json-hash": _json_hash, "phaser-multi": _phaser_multi, "libgdx": _libgdx,
 }
 

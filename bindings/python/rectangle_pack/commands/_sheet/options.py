@@ -9,8 +9,11 @@ from pathlib import Path
 from typing import get_args
 
 from ... import AnyHeuristic, Heuristic
+from .._common import Wrong
 from .index import FORMATS
-from .rules import PageRules, Size
+from .numbered import Naming
+from .rules import PageRules, Size, is_power_of_two, rounded_up
+from .scales import AS_IT_IS, PageScale, grid_of, page_multiple, read_scales
 
 __all__ = ["Options", "add_words", "options_of"]
 
@@ -26,8 +29,17 @@ Out: NAME.png, or NAME-0.png, NAME-1.png .. where one page is not enough, and an
   json-hash     NAME.json, or a file for each page: TexturePacker's JSON (hash), for PixiJS and Phaser 3
   phaser-multi  NAME.phaser.json, for multiatlas of Phaser 3
   libgdx        NAME.atlas, for TextureAtlas of libGDX in all versions: without bounds and offsets; filter is
-                Nearest,Nearest, each index -1
+                Nearest,Nearest
 Where it refuses, nothing is written; where a file cannot be written, those written before it stay.
+
+Names that end in numbers: walk-1, walk_02, walk3 and walk/4 are frames 1 to 4 of walk. In json-hash each such name becomes
+an animation, in the order of the numbers. PixiJS takes the frames of an animation from one page; so one whose frames are on
+several is left out, which is said. --group-by keeps folders on one page.
+
+Scales: with --scale 1,0.5 all is packed once and written twice: NAME@1x.png and NAME@0.5x.png, and so with NAME-0@1x.png and
+the indices. --size and margins are those at scale 1. Each number in the index at 0.5 is half of that at 1. So all have to be
+multiples of 2 at 1, or of what the scales ask otherwise: a sprite whose sides are none is refused, --trim keeps a little more,
+and padding, border and extrusion are rounded up. A pixel at 0.5 is the mean of four. The files of libgdx tell no scale.
 """
 
 EPILOG = """\
@@ -46,6 +58,8 @@ class Options:
     output: Path
     formats: Sequence[str]
     rules: PageRules
+    scales: Sequence[PageScale]
+    naming: Naming
     heuristic: AnyHeuristic
     trim: bool
     alias: bool
@@ -105,6 +119,11 @@ def add_words(parser: argparse.ArgumentParser) -> None:
     add("--size", type=_page_size, default=(2048, 2048), metavar="WxH",
         help="greatest size of a page, at most 16384x16384; 256 is 256x256 (2048x2048)")
     add("--power-of-two", action="store_true", help="sides of pages are powers of two, none above --size")
+    add("--square", action="store_true", help="pages are squares, as large at most as the smaller side of --size")
+    add("--multiple-of", type=_side, default=1, metavar="N",
+        help="sides of pages are multiples of N, at each scale: 4 for block compression; with --power-of-two N is one (1)")
+    add("--scale", type=read_scales, metavar="LIST",
+        help="scales at which pages and indices are written, as 1,0.5; each is at most 1")
     add("--padding", type=pixels, default=2, metavar="N", help="empty pixels between sprites (2)")
     add("--border", type=pixels, default=0, metavar="N", help="empty pixels along the edges of a page (0)")
     add("--extrude", type=pixels, default=0, metavar="N",
@@ -117,6 +136,10 @@ def add_words(parser: argparse.ArgumentParser) -> None:
     add("--group-by", choices=("folder", "top"), default="",
         help="keep sprites on one page that share their folder, or that share the top one of their folders; those in no "
         "folder are alone")
+    add("--no-animations", action="store_true", help="no animations in the index of json-hash")
+    add("--index", action="store_true",
+        help="in libgdx the name of a sprite that ends in a number is without it, and index has the number, for "
+        "findRegions; without this option each index is -1")
     add("--heuristic", choices=("best", *get_args(Heuristic)), default="best", metavar="NAME",
         help=f"what is packed first: {', '.join(get_args(Heuristic))}, or the best of all (best)")
     add("--page", type=Path, metavar="FILE", help="write an HTML page to look at")
@@ -125,9 +148,36 @@ def add_words(parser: argparse.ArgumentParser) -> None:
         "part was in the whole sprite, with the whole's size; files")
 
 
+def _no_side(multiple: int, words: argparse.Namespace) -> Wrong:
+    """Refuses words that leave no side for a page."""
+    asked = ["--multiple-of"] if words.multiple_of > 1 else []
+    asked += ["--scale"] if words.scale else []
+    return Wrong(f"--size has the side {min(words.size)}, and by {' and '.join(asked)} a side is {multiple} at least")
+
+
+def _rules(words: argparse.Namespace, scales: Sequence[PageScale]) -> PageRules:
+    """The rules for pages at scale 1, by which they are right at each scale."""
+    if words.power_of_two:
+        if not is_power_of_two(words.multiple_of):
+            raise Wrong(f"no power of two is a multiple of {words.multiple_of}: name another --multiple-of, or no --power-of-two")
+        for it in scales:
+            if it.part.numerator != 1 or not is_power_of_two(it.part.denominator):
+                raise Wrong(
+                    f"no power of two is one at scale {it.text} too: name another --scale, or no --power-of-two")
+    grid, multiple = grid_of(scales), page_multiple(words.multiple_of, scales)
+    if multiple > min(words.size):
+        raise _no_side(multiple, words)
+    padding, border, extrude = (rounded_up(it, grid) for it in (words.padding, words.border, words.extrude))
+    return PageRules(words.size, words.power_of_two, padding, border, extrude, words.square, multiple, grid)
+
+
 def options_of(words: argparse.Namespace) -> Options:
-    rules = PageRules(words.size, words.power_of_two, words.padding, words.border, words.extrude)
+    scales = words.scale or [AS_IT_IS]
+    rules = _rules(words, scales)
     formats = list(dict.fromkeys(words.format or ["json-hash"]))
+    if words.index and "libgdx" not in formats:
+        raise Wrong("--index is for libgdx: name it in --format")
+    naming = Naming(not words.no_animations, words.index)
     return Options(
-        words.folders, words.output, formats, rules, words.heuristic, words.trim, words.alias, words.group_by, words.with_png,
-        words.json, words.page)
+        words.folders, words.output, formats, rules, scales, naming, words.heuristic, words.trim, words.alias, words.group_by,
+        words.with_png, words.json, words.page)

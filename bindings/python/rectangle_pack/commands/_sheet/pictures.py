@@ -11,7 +11,7 @@ from typing import Any
 from .._common import Wrong, needs
 from .rules import Size
 
-__all__ = ["check_pillow", "digest", "drawn_page", "kept_part", "read_picture"]
+__all__ = ["check_pillow", "digest", "drawn_page", "kept_part", "read_picture", "resized"]
 
 # Of Pillow, which has no types.
 Picture = Any
@@ -78,6 +78,11 @@ def kept_part(picture: Picture) -> tuple[int, int, int, int]:
     be seen it is the first pixel."""
     box: tuple[int, int, int, int] | None = picture.getchannel("A").getbbox()
     return box or (0, 0, 1, 1)
+
+
+def resized(picture: Picture, size: Size) -> Picture:
+    """The picture in another size. Each pixel is the mean of those in its place, in which what is clear has no colour."""
+    return picture if picture.size == size else picture.resize(size, _pillow().BOX)
 
 
 def digest(picture: Picture) -> bytes:

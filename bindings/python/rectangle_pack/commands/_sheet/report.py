@@ -7,7 +7,9 @@ from pathlib import Path
 from typing import Any
 
 from .._common import print_json
+from .._filled import filled_text
 from .._scene import Item, Room, Scene, Step
+from .numbered import Animation
 from .rules import shown
 from .sheets import Frame, Sheet
 
@@ -19,8 +21,8 @@ def _count(number: int, one: str, many: str) -> str:
 
 
 def _filled(sheets: Sequence[Sheet]) -> str:
-    """The part of the pixels that sprites have, rounded down: only what is full is 100 %."""
-    return f"{100 * sum(it.taken for it in sheets) // sum(it.pixels for it in sheets)} %"
+    """The part of the pixels that sprites have."""
+    return filled_text(sum(it.taken for it in sheets), sum(it.pixels for it in sheets))
 
 
 def _line(sheet: Sheet) -> str:
@@ -31,11 +33,14 @@ def _line(sheet: Sheet) -> str:
     return ", ".join([*parts, f"{_filled([sheet])} filled"])
 
 
-def print_lines(sheets: Sequence[Sheet], files: Sequence[Path]) -> None:
-    """Prints a line for each page and for each index."""
+def print_lines(sheets: Sequence[Sheet], animations: Sequence[Animation], files: Sequence[Path]) -> None:
+    """Prints a line for each page and for each index, and for each animation that is left out."""
     pages = {sheet.image: _line(sheet) for sheet in sheets}
     for file in files:
         print(f"{file}: {pages[file.name]}" if file.name in pages else file)
+    for it in animations:
+        if len(it.pages) > 1:
+            print(f"no animation {it.name!r}: its frames are on {len(it.pages)} pages, and PixiJS takes them from one")
 
 
 def _sprite(frame: Frame, number: int) -> dict[str, Any]:
@@ -48,14 +53,19 @@ def _sprite(frame: Frame, number: int) -> dict[str, Any]:
     }
 
 
-def print_sheets(sheets: Sequence[Sheet], files: Sequence[Path]) -> None:
+def _animation(it: Animation) -> dict[str, Any]:
+    return {"name": it.name, "frames": list(it.frames), "page": it.pages[0] if len(it.pages) == 1 else None}
+
+
+def print_sheets(sheets: Sequence[Sheet], animations: Sequence[Animation], files: Sequence[Path]) -> None:
     """Prints what was decided, for programs."""
     print_json({
         "pages": [{
             "image": sheet.image, "width": sheet.size[0], "height": sheet.size[1], "heuristic": sheet.heuristic,
-            "stored": len(sheet.stored), "filled": round(sheet.taken / sheet.pixels, 4),
+            "stored": len(sheet.stored), "filled": 10_000 * sheet.taken // sheet.pixels / 10_000, "scale": sheet.scale.number,
         } for sheet in sheets],
         "sprites": [_sprite(frame, number) for number, sheet in enumerate(sheets) for frame in sheet.frames],
+        "animations": [_animation(it) for it in animations],
         "files": [str(file) for file in files],
     })
 

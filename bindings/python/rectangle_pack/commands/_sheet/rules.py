@@ -2,10 +2,11 @@
 from __future__ import annotations
 
 from dataclasses import dataclass
+from itertools import product
 
 from ... import Bin, Box
 
-__all__ = ["PageRules", "Size", "shown"]
+__all__ = ["PageRules", "Size", "is_power_of_two", "rounded_up", "shown"]
 
 # A width and a height.
 Size = tuple[int, int]
@@ -13,6 +14,15 @@ Size = tuple[int, int]
 
 def shown(size: Size) -> str:
     return f"{size[0]}x{size[1]}"
+
+
+def is_power_of_two(number: int) -> bool:
+    return number > 0 and number & (number - 1) == 0
+
+
+def rounded_up(number: int, by: int) -> int:
+    """The least multiple that is not below the number."""
+    return -(-number // by) * by
 
 
 def _power_below(number: int) -> int:
@@ -28,7 +38,8 @@ def _power_above(number: int) -> int:
 @dataclass(frozen=True)
 class PageRules:
     """The greatest size of a page, and in pixels: the padding between sprites, the border of a page, and how often the
-    outermost pixels of a sprite are repeated round it.
+    outermost pixels of a sprite are repeated round it; which sides a page may have; and of what each length on a page is a
+    multiple: sides of sprites, and these margins.
 
     The box of a sprite has the repeated pixels on all sides, and the padding at the right and below. The bin of a page has
     no border. It has the padding once more, as none is needed at its right and lower edge."""
@@ -38,18 +49,61 @@ class PageRules:
     padding: int = 0
     border: int = 0
     extrude: int = 0
+    square: bool = False
+    # No greater than a side of the limit. With powers of two it is one.
+    multiple_of: int = 1
+    grid: int = 1
+
+    def _side_below(self, side: int) -> int:
+        """The greatest side of a page that is not above this one."""
+        return _power_below(side) if self.powers_of_two else side - side % self.multiple_of
+
+    def _side_above(self, side: int) -> int:
+        """The least side of a page that is not below this one."""
+        return rounded_up(_power_above(side) if self.powers_of_two else side, self.multiple_of)
+
+    @property
+    def _sides(self) -> Size:
+        """The limit of each side."""
+        width, height = self.limit
+        return (min(self.limit),) * 2 if self.square else (width, height)
 
     @property
     def most(self) -> Size:
         """The largest page."""
-        width, height = self.limit
-        return (_power_below(width), _power_below(height)) if self.powers_of_two else self.limit
+        width, height = self._sides
+        return self._side_below(width), self._side_below(height)
+
+    @property
+    def why_most(self) -> str:
+        """Why the largest page is below the limit, in brackets; nothing where it is not."""
+        kind = "power of two" if self.powers_of_two else f"multiple of {self.multiple_of}"
+        reasons = ["pages are squares"] if self._sides != self.limit else []
+        for most, side in dict.fromkeys(zip(self.most, self._sides)):
+            if most < side:
+                reasons.append(f"{most} is the greatest {kind} up to {side}")
+        return f" ({', and '.join(reasons)})" if reasons else ""
 
     @property
     def most_for_one(self) -> Size:
         """The largest sprite that a page takes. It may be below 1."""
         round_it = 2 * (self.border + self.extrude)
         return self.most[0] - round_it, self.most[1] - round_it
+
+    @property
+    def has_few_sizes(self) -> bool:
+        """Whether all sizes can be tried."""
+        return self.powers_of_two or self.square
+
+    def sizes(self) -> list[Size]:
+        """All sizes that a page may have, where these are few."""
+        width, height = self.most
+        if self.powers_of_two:
+            sides = [2**power for power in range(max(self.most).bit_length()) if 2**power >= self.multiple_of]
+        else:
+            sides = list(range(self.multiple_of, width + 1, self.multiple_of))
+        pairs = zip(sides, sides) if self.square else product(sides, sides)
+        return [size for size in pairs if size[0] <= width and size[1] <= height]
 
     def box(self, sprite: Size, group: str = "") -> Box:
         more = 2 * self.extrude + self.padding
@@ -65,8 +119,8 @@ class PageRules:
 
     def page(self, cells: Size) -> Size:
         """The least page whose bin has so many cells along its sides."""
-        width, height = cells[0] + self.more, cells[1] + self.more
-        return (_power_above(width), _power_above(height)) if self.powers_of_two else (width, height)
+        width, height = (self._side_above(side + self.more) for side in cells)
+        return (max(width, height),) * 2 if self.square else (width, height)
 
     def pixel(self, corner: Size) -> Size:
         """Where on a page the first pixel of the sprite is whose box has this corner in the bin."""

@@ -180,5 +180,5 @@ def shared_out(boxes: Sequence[Box], rules: PageRules, heuristic: AnyHeuristic) 
     indexed, bin = dict(enumerate(boxes)), rules.bin(rules.most)
     for group, members in _groups(indexed).items():
         if not _fit([members], bin, heuristic):
-            raise NoRoom(f"the group {group!r} ({len(members)} sprites) fits no page of {shown(rules.most)}")
+            raise NoRoom(f"the group {group!r} ({len(members)} sprites) fits no page of {shown(rules.most)}{rules.why_most}")
     return _Sharing(indexed, bin, _TRIED if heuristic == "best" else (heuristic,)).pages()

@@ -61,19 +61,17 @@ class _Search:
 
     def tries(self) -> list[Bin]:
         """The bins to try one after the other. Where pages may have any size, these have all widths and the greatest height."""
-        return self._powers_of_two() if self._rules.powers_of_two else self._widths()
+        return self._sizes() if self._rules.has_few_sizes else self._widths()
 
     def attempt(self, bin: Bin) -> None:
-        if not self._rules.powers_of_two:
+        if not self._rules.has_few_sizes:
             self._try_width(bin)
         elif _rank(self._rules.page(bin[:2])) < _rank(self.best.size):
             self._take(bin)
 
-    def _powers_of_two(self) -> list[Bin]:
+    def _sizes(self) -> list[Bin]:
         """The smallest first, and of equal ones the wide one."""
-        width, height = self._rules.most
-        sizes = [(2**i, 2**j) for i in range(width.bit_length()) for j in range(height.bit_length())]
-        bins = map(self._rules.bin, sorted(sizes, key=lambda it: (_rank(it), it[1])))
+        bins = map(self._rules.bin, sorted(self._rules.sizes(), key=lambda it: (_rank(it), it[1])))
         return [it for it in bins if it.width >= self._widest and it.height >= self._least_height(it.width)]
 
     def _least_height(self, width: int) -> int:
@@ -86,8 +84,12 @@ class _Search:
         least = max(self._widest, -(-self._cells // most.height), min(root // 2, most.width))
         greatest = min(most.width, 2 * max(least, root))
         steps = max(1, min(greatest - least, max(_STEPS, _STEPS_TIMES_BOXES // len(self._boxes))))
-        widths = {least + (greatest - least) * step // steps for step in range(steps + 1)}
+        widths = {self._whole_width(least + (greatest - least) * step // steps) for step in range(steps + 1)}
         return [Bin(width, most.height) for width in sorted(widths, key=lambda it: (abs(it - root), it))]
+
+    def _whole_width(self, width: int) -> int:
+        """The width of the bin of the least page that is so wide."""
+        return self._rules.bin(self._rules.page((width, width))).width
 
     def _try_width(self, bin: Bin) -> None:
         """Tries the greatest height at which a page of this width has no more pixels than the best one. Where it takes the
