@@ -16,8 +16,8 @@ __all__ = ["SCRIPTS", "page_of"]
 
 # They are put into one script, in this order.
 SCRIPTS = (
-    "model.js", "cuts.js", "layout.js", "look.js", "flat.js", "solid.js", "names.js", "overlay.js", "panels.js", "table.js",
-    "update.js", "page.js", "pointer.js", "keys.js", "start.js",
+    "model.js", "cuts.js", "layout.js", "look.js", "captions.js", "flat.js", "solid.js", "names.js", "overlay.js", "panels.js",
+    "legend.js", "table.js", "update.js", "bins.js", "page.js", "pointer.js", "keys.js", "titles.js", "start.js",
 )
 
 # These may not stand in a script of HTML as they are. JSON and JavaScript read them back from their numbers.

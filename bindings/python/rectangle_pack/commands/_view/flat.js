@@ -44,6 +44,7 @@ class FlatPicture {
     for (const item of view.ghosts) this.drawGhost(item, view);
     this.drawMarks(view);
     if (view.cuts) this.drawCut(view.cuts[view.cuts.length - 1], view);
+    drawBinMarks(this.context, this.look, view);
     for (const cell of view.cells) drawCaption(this.context, this.look, cell, rectOf(wholeOf(cell.room), cell, view), view);
   }
 
@@ -206,31 +207,23 @@ class FlatPicture {
   }
 
   /**
-   * What was cut so far, and the parts that the last cut leaves.
+   * What was cut so far, and the parts that the last cut leaves. They are marked by lines, so that boxes keep their colours.
    * @param {Cell} cell @param {Cut[]} cuts @param {View} view
    */
   drawParts(cell, cuts, view) {
-    const { context, look } = this;
+    const { look } = this;
     for (const cut of cuts) {
       if (cut.room === cell.room) this.line(cut, cell, view, look.colours.ink, 1.6);
     }
     const last = cuts[cuts.length - 1];
     if (!last || last.room !== cell.room) return;
     const [lower, , upper] = partsOf(last);
-    context.globalAlpha = 0.5;
-    context.fillStyle = look.colours.stage;
-    const [whole, part] = [rectOf(wholeOf(cell.room), cell, view), rectOf(last, cell, view)];
-    context.beginPath();
-    context.rect(whole.x, whole.y, whole.w, whole.h);
-    context.rect(part.x, part.y, part.w, part.h);
-    context.fill("evenodd");
-    context.globalAlpha = 0.34;
     for (const [half, colour] of /** @type {[Part, string][]} */ ([[lower, look.colours.lower], [upper, look.colours.upper]])) {
       const rect = rectOf(half, cell, view);
-      context.fillStyle = colour;
-      context.fillRect(rect.x, rect.y, rect.w, rect.h);
+      const width = Math.max(2, Math.min(6, Math.min(rect.w, rect.h) / 12));
+      this.mark(rect, look.colours.stage, width + 2);
+      this.mark(rect, colour, width);
     }
-    context.globalAlpha = 1;
   }
 
   /** @param {Cut | undefined} cut @param {View} view */
@@ -258,26 +251,6 @@ class FlatPicture {
 function behindFirst(items, room, view) {
   if (view.scene.isFlat) return items;
   return [...items].sort((a, b) => along(b, room, view.side.away) - along(a, room, view.side.away));
-}
-
-/**
- * What a bin is called and how full it is, above it.
- * @param {CanvasRenderingContext2D} context @param {Look} look @param {Cell} cell @param {Rect} bin @param {View} view
- */
-function drawCaption(context, look, cell, bin, view) {
-  const room = Math.max(bin.w, NARROWEST * view.camera.zoom) + GAP / 2;
-  if (room < 30) return;
-  context.font = `600 13px ${PLAIN_FONT}`;
-  context.textAlign = "left";
-  context.textBaseline = "alphabetic";
-  const name = shortened(context, cell.room.name, room);
-  context.fillStyle = look.colours.ink;
-  context.fillText(name, bin.x, bin.y - 7);
-  const used = context.measureText(name).width + 10;
-  context.font = `12px ${PLAIN_FONT}`;
-  context.fillStyle = look.colours.faint;
-  const rest = (view.captions.get(cell.room) || []).find((text) => context.measureText(text).width <= room - used);
-  if (rest) context.fillText(rest, bin.x + used, bin.y - 7);
 }
 
 /**

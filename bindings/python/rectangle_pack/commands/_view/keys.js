@@ -20,6 +20,9 @@ const hasSections = (page) => page.scene.sections.length > 0;
 /** @param {Page} page */
 const hasCuts = (page) => page.scene.cuts.length > 0;
 
+/** @param {Page} page */
+const hasBins = (page) => page.bins.isSeveral;
+
 /** @type {Key[]} */
 const KEYS = [
   { keys: ["n"], shown: "N", text: "next step", run: (page) => page.goTo(page.place + 1), isThere: hasSteps },
@@ -31,11 +34,16 @@ const KEYS = [
   { keys: ["c"], shown: "C", text: "cutting plan", run: (page) => page.setCutting(!page.isCutting), isThere: hasCuts },
   { keys: ["j"], shown: "J", text: "next box", run: (page) => page.selectNext(1) },
   { keys: ["k"], shown: "K", text: "the box before", run: (page) => page.selectNext(-1) },
+  { keys: ["b"], shown: "B", text: "next bin", run: (page) => page.bins.next(1), isThere: hasBins },
+  { keys: ["B"], shown: "Shift B", text: "the bin before", run: (page) => page.bins.next(-1), isThere: hasBins },
+  { keys: ["Enter"], shown: "Enter", text: "show one bin alone; Left and Right go to others then", run: openBin, isThere: hasBins },
   { keys: ["/"], shown: "/", text: "find a name; Enter goes to the next that is found", run: () => any("query").focus() },
   { keys: ["+", "="], shown: "+", text: "zoom in", run: (page) => page.zoom(1.25) },
   { keys: ["-"], shown: "−", text: "zoom out", run: (page) => page.zoom(0.8) },
   { keys: ["0"], shown: "0", text: "fit the drawing", run: (page) => page.fit() },
   { keys: [...ARROWS.keys()], shown: "Arrows", text: "shift the drawing; turn it in 3D, and shift it with Shift", run: arrow },
+  { keys: [","], shown: ",", text: "turn to the left", run: (page) => page.turnBy(TURN, 0), isThere: hasDepth },
+  { keys: ["."], shown: ".", text: "turn to the right", run: (page) => page.turnBy(-TURN, 0), isThere: hasDepth },
   { keys: ["v"], shown: "V", text: "3D, or from a side", run: (page) => page.setTurned(!page.isTurned), isThere: hasDepth },
   { keys: ["l"], shown: "L", text: "hide one layer more", run: (page) => page.setPeel(page.peel + 1), isThere: hasDepth },
   { keys: ["L"], shown: "Shift L", text: "one layer less", run: (page) => page.setPeel(page.peel - 1), isThere: hasDepth },
@@ -48,18 +56,25 @@ const KEYS = [
   { keys: ["g"], shown: "G", text: "go to the drawing", run: () => any("flat").focus() },
   { keys: ["d"], shown: "D", text: "light or dark", run: (page) => page.setDark(!page.isDark) },
   { keys: ["?"], shown: "?", text: "these keys", run: showHelp },
-  { keys: ["Escape"], shown: "Esc", text: "end the search, choose no box", run: leave },
+  { keys: ["Escape"], shown: "Esc", text: "end the search, show all bins, choose nothing", run: leave },
 ];
 
 /** @param {Page} page @param {KeyboardEvent} event */
 function arrow(page, event) {
   const [x, y] = ARROWS.get(event.key) || [0, 0];
-  if (page.isTurned && !event.shiftKey) {
+  if (page.bins.isAlone && x !== 0 && !event.shiftKey) {
+    page.bins.next(-x);
+  } else if (page.isTurned && !event.shiftKey) {
     page.turnBy(x * TURN, y * TURN);
   } else {
     page.camera.shift(x * SHIFT, y * SHIFT);
     page.moving();
   }
+}
+
+/** @param {Page} page */
+function openBin(page) {
+  page.bins.showChosen();
 }
 
 /** @param {Page} page */
@@ -93,7 +108,10 @@ function leave(page) {
   if (page.query) {
     query.value = "";
     page.search("");
+  } else if (page.bins.isAlone) {
+    page.bins.showAll();
   } else {
+    page.bins.choose(null);
     page.select(null, false);
   }
   page.flatCanvas.focus();
@@ -108,6 +126,7 @@ function takesKey(at, key) {
   if (at instanceof HTMLSelectElement || at instanceof HTMLTextAreaElement) return true;
   const isArrow = key.startsWith("Arrow") || key === "Home" || key === "End";
   const root = document.documentElement;
+  if (key === "Enter" && at !== null && at !== document.body) return at.id !== "flat";
   if (at === document.body || at === null) return isArrow && root.scrollHeight > root.clientHeight;
   if (at instanceof HTMLInputElement) return at.type === "range" ? isArrow : at.type !== "checkbox";
   return isArrow && at.closest("#list, #answer, #side") !== null;

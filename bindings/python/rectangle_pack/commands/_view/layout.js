@@ -4,13 +4,15 @@
  * Where a bin is drawn, in pixels at zoom 1: the middle and the extent of its place, and how many pixels a cell has.
  * @typedef {{room: Room, x: number, y: number, width: number, height: number, scale: number}} Cell
  *
+ * The room for bins, and how high what stands above one is.
+ * @typedef {{width: number, height: number, caption: number}} Inside
+ *
  * An axis and its direction: 1 forward, -1 backward.
  * @typedef {[number, number]} Way
  * @typedef {{right: Way, up: Way, away: Way}} Side
  */
 
 const GAP = 26;
-const CAPTION = 22;
 const MARGIN = 18;
 const NARROWEST = 132;
 // The longer side of the largest bin has so many pixels at least. Where not all bins have room then, the drawing goes on below.
@@ -53,20 +55,21 @@ function along(part, room, way) {
  * @param {[number, number][]} now and as it is seen now
  * @param {number} width
  * @param {number} height
+ * @param {number} caption how high what stands above a bin is
  * @returns {Cell[]}
  */
-function arranged(rooms, first, now, width, height) {
-  const inside = { width: Math.max(60, width - 2 * MARGIN), height: Math.max(60, height - 2 * MARGIN) };
-  const ends = evenEnds(first, greatest(first, inside, null), inside.width);
+function arranged(rooms, first, now, width, height, caption) {
+  const inside = { width: Math.max(60, width - 2 * MARGIN), height: Math.max(60, height - 2 * MARGIN), caption };
+  const ends = evenEnds(first, greatest(first, inside, null), inside);
   const scale = greatest(now, inside, ends);
-  const found = rows(now, scale, inside.width, ends);
+  const found = rows(now, scale, inside, ends);
   const left = (width - found.width) / 2;
   const top = Math.max(MARGIN, (height - found.height) / 2);
   return rooms.map((room, index) => {
     const [w, h] = now[index];
     const [x, y] = found.corners[index];
     return {
-      room, x: left + x + (w * scale) / 2, y: top + y + CAPTION + (h * scale) / 2, width: w * scale, height: h * scale, scale,
+      room, x: left + x + (w * scale) / 2, y: top + y + caption + (h * scale) / 2, width: w * scale, height: h * scale, scale,
     };
   });
 }
@@ -75,23 +78,23 @@ function arranged(rooms, first, now, width, height) {
  * Which bins end a row, in as few rows as there have to be, of which the longest is as short as it can be.
  * @param {[number, number][]} extents
  * @param {number} scale
- * @param {number} width
+ * @param {Inside} inside
  */
-function evenEnds(extents, scale, width) {
-  const { ends } = rows(extents, scale, width, null);
-  let [low, high] = [0, width];
+function evenEnds(extents, scale, inside) {
+  const { ends } = rows(extents, scale, inside, null);
+  let [low, high] = [0, inside.width];
   for (let round = 0; round < 12; round += 1) {
     const middle = (low + high) / 2;
-    if (rows(extents, scale, middle, null).ends.size > ends.size) low = middle;
+    if (rows(extents, scale, { ...inside, width: middle }, null).ends.size > ends.size) low = middle;
     else high = middle;
   }
-  return rows(extents, scale, high, null).ends;
+  return rows(extents, scale, { ...inside, width: high }, null).ends;
 }
 
 /**
  * The greatest number of pixels for a cell with which the rows fit; but bins are never so small that they cannot be seen.
  * @param {[number, number][]} extents
- * @param {{width: number, height: number}} inside
+ * @param {Inside} inside
  * @param {Set<number> | null} ends
  */
 function greatest(extents, inside, ends) {
@@ -100,7 +103,7 @@ function greatest(extents, inside, ends) {
   let [low, high] = [Math.min(SMALLEST / Math.max(widest, tallest), inside.width / widest), inside.width / widest];
   for (let round = 0; round < 40; round += 1) {
     const middle = (low + high) / 2;
-    const it = rows(extents, middle, inside.width, ends);
+    const it = rows(extents, middle, inside, ends);
     if (it.width <= inside.width && it.height <= inside.height) low = middle;
     else high = middle;
   }
@@ -112,10 +115,10 @@ function greatest(extents, inside, ends) {
  * or a row ends where the next bin is not inside.
  * @param {[number, number][]} extents
  * @param {number} scale
- * @param {number} width
+ * @param {Inside} inside
  * @param {Set<number> | null} given
  */
-function rows(extents, scale, width, given) {
+function rows(extents, scale, { width, caption }, given) {
   /** @type {[number, number][]} */
   const corners = [];
   /** @type {Set<number>} */
@@ -129,7 +132,7 @@ function rows(extents, scale, width, given) {
     }
     corners.push([x, y]);
     reach = Math.max(reach, x + wide);
-    [x, row] = [x + wide + GAP, Math.max(row, h * scale + CAPTION)];
+    [x, row] = [x + wide + GAP, Math.max(row, h * scale + caption)];
   });
   return { corners, ends, width: reach, height: y + row };
 }

@@ -5,7 +5,7 @@
  * @typedef {{scene: Scene, cells: Cell[], camera: Camera, turn: Turn, side: Side, isTurned: boolean,
  *   items: Map<Room, Item[]>, ghosts: Item[], sections: Map<Room, Section[]>, placed: Set<Item>, matches: Set<Item> | null,
  *   selected: Item | null, hovered: Item | null, cuts: Cut[] | null, names: boolean, free: boolean, pictures: boolean,
- *   captions: Map<Room, string[]>}} View
+ *   captions: Map<Room, string[]>, lines: number, bin: Room | null, pointed: Room | null}} View
  */
 
 const FILLS = 10;
@@ -21,7 +21,7 @@ function readColours() {
   return {
     ink: of("ink"), faint: of("faint"), stage: of("stage"), bin: of("bin"), wall: of("wall"), hatch: of("hatch"),
     line: of("line"), edge: of("edge"), label: of("label"), placed: of("placed"), released: of("released"), match: of("match"),
-    selected: of("selected"), saw: of("saw"), lower: of("lower"), upper: of("upper"), alone: of("alone"),
+    selected: of("selected"), saw: of("saw"), lower: of("lower"), upper: of("upper"), alone: of("alone"), accent: of("accent"),
     groups: Array.from({ length: FILLS }, (_, index) => of(`group-${index}`)),
   };
 }
@@ -42,7 +42,7 @@ class Look {
 
   /** @param {Group | null} group */
   fill(group) {
-    return group ? this.colours.groups[group.index % FILLS] : this.colours.alone;
+    return group && !group.isAlone ? this.colours.groups[group.index % FILLS] : this.colours.alone;
   }
 
   /**
@@ -50,7 +50,7 @@ class Look {
    * @param {Group | null} group
    */
   pattern(group) {
-    return group ? Math.floor(group.index / FILLS) % 4 : 0;
+    return group && !group.isAlone ? Math.floor(group.index / FILLS) % 4 : 0;
   }
 
   /**
@@ -147,11 +147,20 @@ class Ruler {
  */
 function shortened(context, text, width) {
   if (context.measureText(text).width <= width) return text;
+  const count = fitting(context, text, width - context.measureText("…").width);
+  return count > 0 ? `${text.slice(0, count)}…` : "";
+}
+
+/**
+ * How many letters of the text are no wider than so many pixels.
+ * @param {CanvasRenderingContext2D} context @param {string} text @param {number} width
+ */
+function fitting(context, text, width) {
   let [low, high] = [0, text.length];
   while (low < high) {
     const middle = Math.ceil((low + high) / 2);
-    if (context.measureText(`${text.slice(0, middle)}…`).width <= width) low = middle;
+    if (context.measureText(text.slice(0, middle)).width <= width) low = middle;
     else high = middle - 1;
   }
-  return low > 0 ? `${text.slice(0, low)}…` : "";
+  return low;
 }

@@ -4,7 +4,10 @@
  * @typedef {[number, number, number]} Triple
  * @typedef {{at: Triple, size: Triple}} Part
  * @typedef {{name: string, size: Triple, image: string, since: number, index: number}} Room
- * @typedef {{name: string, index: number, count: number}} Group
+ *
+ * A group. Its number is that of its colour. It is alone where it has one box, and is drawn as boxes in no group.
+ * @typedef {{name: string, index: number, count: number, isAlone: boolean}} Group
+ *
  * @typedef {Part & {index: number, number: string, name: string, room: Room, group: Group | null, note: string,
  *   from: number, to: number, volume: bigint}} Item
  * @typedef {Part & {room: Room, from: number, to: number}} Section
@@ -58,6 +61,7 @@ class Scene {
     this.byName = new Map(this.rooms.map((room) => [room.name, room]));
     /** @type {Step[]} */
     this.steps = this.readSteps(raw.steps || []);
+    this.numberGroups();
     this.cuts = this.readCuts(raw.cuts || {});
     this.hasNotes = this.items.some((item) => item.note !== "");
   }
@@ -94,7 +98,7 @@ class Scene {
     const part = partOf(raw.at);
     let group = null;
     if (raw.group) {
-      group = groups.get(raw.group) || { name: raw.group, index: groups.size, count: 0 };
+      group = groups.get(raw.group) || { name: raw.group, index: 0, count: 0, isAlone: false };
       if (!groups.has(raw.group)) this.groups.push(group);
       groups.set(raw.group, group);
       group.count += 1;
@@ -105,6 +109,18 @@ class Scene {
     };
     this.items.push(item);
     return item;
+  }
+
+  /** Each group has a colour of its own; but where there are more groups than colours, only those of several boxes. */
+  numberGroups() {
+    let next = 0;
+    for (const group of this.groups) {
+      group.isAlone = group.count === 1 && this.groups.length > FILLS;
+      if (!group.isAlone) {
+        group.index = next;
+        next += 1;
+      }
+    }
   }
 
   /**
@@ -199,13 +215,14 @@ function counted(count, one, many) {
 }
 
 /**
- * How much of a bin is filled, in whole percent.
+ * How much of a bin is filled, as the commands print it: in percent with one decimal, rounded down.
  * @param {Room} room @param {Item[]} items
  */
 function filledText(room, items) {
   const whole = volumeOf(room.size);
   if (whole === 0n) return "no cells";
   const placed = items.reduce((sum, item) => sum + item.volume, 0n);
-  const percent = (100n * placed) / whole;
-  return placed > 0n && percent === 0n ? "under 1 % filled" : `${percent} % filled`;
+  const tenths = (1000n * placed) / whole;
+  if (placed > 0n && tenths === 0n) return "under 0.1 % filled";
+  return `${tenths / 10n}${tenths % 10n ? `.${tenths % 10n}` : ""} % filled`;
 }

@@ -121,6 +121,7 @@ class Overlay {
       }
       drawCaption(this.context, this.look, cell, captionPlace(cell, view), view);
     }
+    drawBinMarks(this.context, this.look, view);
   }
 
   /**
@@ -183,9 +184,8 @@ class Overlay {
     const last = cuts[cuts.length - 1];
     if (!last || last.room !== sight.cell.room) return;
     const [lower, , upper] = partsOf(last);
-    for (const { corners } of sight.faces(lower)) this.polygon(corners, look.colours.lower, 1, look.colours.lower, 0.34);
-    for (const { corners } of sight.faces(upper)) this.polygon(corners, look.colours.upper, 1, look.colours.upper, 0.34);
-    this.polygon(planeCorners(sight, last), look.colours.saw, 0, look.colours.saw, 0.3);
+    this.drawBox(sight, lower, look.colours.lower, 3);
+    this.drawBox(sight, upper, look.colours.upper, 3);
     context.setLineDash([10, 4]);
     this.polygon(planeCorners(sight, last), look.colours.saw, 3.5);
     context.setLineDash([]);

@@ -16,10 +16,11 @@ class Page {
     this.solids = new Solids(element("solid", HTMLCanvasElement));
     this.solids.onRestored = () => this.changed();
     this.overlay = new Overlay(this.context, this.look, this.flat.ruler);
-    this.legend = new Legend(this.look, (group, isShown) => this.showGroup(group, isShown));
+    this.legend = new Legend(this.look, (groups, isShown) => this.showGroups(groups, isShown));
     this.table = new BoxTable((item) => this.select(item, true));
     this.camera = new Camera();
     this.turn = new Turn();
+    this.bins = new Bins(this);
     this.scene = new Scene({ title: "", unit: "" });
     // The step that is shown; or in a cutting plan, how many cuts are done.
     this.step = 0;
@@ -43,6 +44,8 @@ class Page {
     this.query = "";
     /** @type {Cell[]} */
     this.cells = [];
+    // How many lines there are above each bin.
+    this.lines = 1;
     this.asked = { layout: true, view: true, frame: false };
     this.isMoving = false;
     this.settled = 0;
@@ -63,6 +66,7 @@ class Page {
     [this.selected, this.hovered, this.hasStepped] = [null, null, false];
     this.hiddenItems.clear();
     this.hiddenGroups.clear();
+    this.bins.reset();
     this.camera.reset();
     this.turn.reset();
     this.fillPanels();
@@ -89,7 +93,7 @@ class Page {
   fillSteps() {
     const list = element("steps", HTMLSelectElement);
     list.replaceChildren(...listEntries(this.scene, this.isCutting));
-    [...list.options].forEach((option, index) => { option.value = String(index); });
+    [...list.options].forEach((option, index) => { [option.value, option.title] = [String(index), option.text]; });
     list.hidden = list.length < 2;
     const slider = element("slider", HTMLInputElement);
     slider.min = this.isCutting ? "0" : "1";
@@ -131,12 +135,14 @@ class Page {
 
   /** The picture moves: names of many boxes wait until it stands, and another box may be under the pointer. */
   moving() {
-    this.hovered = null;
+    [this.hovered, this.bins.pointed] = [null, null];
+    any("tip").hidden = true;
     this.isMoving = true;
     clearTimeout(this.settled);
     this.settled = window.setTimeout(() => {
       this.isMoving = false;
       this.redraw();
+      updateBinTip(this);
     }, 160);
     this.redraw();
   }
@@ -161,22 +167,34 @@ class Page {
     if (layout || view) this.update(view);
   }
 
-  /** Puts the bins in place. */
+  /** Puts the bins in place: all, or the one that is alone, whose name stands in its bar. */
   arrange() {
-    const { scene } = this;
-    const { clientWidth: width, clientHeight: height } = any("stage");
-    const side = this.side();
-    const { rooms } = scene;
-    if (this.isTurned) {
-      const pitch = Math.max(PITCH, Math.abs(this.turn.pitch));
-      const [first, now] = [PITCH, pitch].map((it) => rooms.map((room) => turnedExtent(room.size, it)));
-      this.cells = arranged(rooms, first, now, width, height);
-    } else {
-      const extents = rooms.map((room) => /** @type {[number, number]} */ ([room.size[side.right[0]], room.size[side.up[0]]]));
-      this.cells = arranged(rooms, extents, extents, width, height);
+    const { alone } = this.bins;
+    this.lines = alone ? 0 : 1;
+    this.cells = this.arrangedCells(alone ? [alone] : this.scene.rooms);
+    // Where names need several lines, these get room. Bins are smaller then, and may need more of them.
+    let needed = alone ? 0 : linesNeeded(this.context, this.cells);
+    while (needed > this.lines) {
+      this.lines = needed;
+      this.cells = this.arrangedCells(this.scene.rooms);
+      needed = linesNeeded(this.context, this.cells);
     }
     const least = Math.min(1, ...this.cells.map((cell) => cell.scale));
     this.camera.greatest = Math.min(this.isTurned ? 400 : 1e6, Math.max(16, 90 / Math.max(least, 1e-9)));
+  }
+
+  /** @param {Room[]} rooms */
+  arrangedCells(rooms) {
+    const { clientWidth: width, clientHeight: height } = any("stage");
+    const caption = captionHeight(this.lines);
+    if (this.isTurned) {
+      const pitch = Math.max(PITCH, Math.abs(this.turn.pitch));
+      const [first, now] = [PITCH, pitch].map((it) => rooms.map((room) => turnedExtent(room.size, it)));
+      return arranged(rooms, first, now, width, height, caption);
+    }
+    const { right, up } = this.side();
+    const extents = rooms.map((room) => /** @type {[number, number]} */ ([room.size[right[0]], room.size[up[0]]]));
+    return arranged(rooms, extents, extents, width, height, caption);
   }
 
   side() {
@@ -225,7 +243,8 @@ class Page {
       selected: this.selected && visible.has(this.selected) ? this.selected : null,
       cuts: this.isCutting ? scene.cuts.slice(0, this.cut) : null,
       names: isChecked("names"), free: isChecked("free"), pictures: isChecked("pictures"),
-      captions: captionsOf([...rooms], byRoom(new Set(standing)), scene),
+      captions: captionsOf([...rooms], byRoom(new Set(standing)), scene), lines: this.lines,
+      bin: this.bins.isAlone ? null : this.bins.chosen, pointed: this.bins.pointed,
     };
   }
 
@@ -252,8 +271,8 @@ class Page {
   /** @param {number} width @param {number} height @param {number} ratio */
   draw(width, height, ratio) {
     const { context, view } = this;
-    view.hovered = this.hovered;
-    if (!this.hovered) any("tip").hidden = true;
+    [view.hovered, view.pointed] = [this.hovered, this.bins.pointed];
+    if (!this.hovered && !this.bins.pointed && !this.bins.isTold) any("tip").hidden = true;
     context.setTransform(ratio, 0, 0, ratio, 0, 0);
     context.clearRect(0, 0, width, height);
     [this.flat.width, this.flat.height] = [width, height];
@@ -286,6 +305,7 @@ class Page {
     this.hasStepped = true;
     if (this.isCutting) this.cut = next;
     else this.step = next;
+    this.bins.followStep();
     this.changed();
   }
 
@@ -306,7 +326,9 @@ class Page {
   setCutting(isCutting) {
     if (!this.scene.cuts.length) return;
     this.isCutting = isCutting;
-    this.cut = isCutting ? 1 : 0;
+    const first = this.scene.cuts.findIndex((cut) => cut.room === this.bins.alone);
+    this.cut = isCutting ? Math.max(0, first) + 1 : 0;
+    if (isCutting) this.bins.followStep();
     this.fillSteps();
     this.changed();
   }
@@ -350,7 +372,10 @@ class Page {
   /** @param {Item | null} item @param {boolean} isFollowed whether the drawing moves to it */
   select(item, isFollowed) {
     this.selected = item;
-    if (item && isFollowed) this.follow(item);
+    if (item && isFollowed) {
+      this.bins.follow([item.room]);
+      this.follow(item);
+    }
     this.changed();
   }
 
@@ -370,7 +395,15 @@ class Page {
   findNext(way) {
     this.flush();
     const found = this.view.matches;
-    if (found && found.size) this.select(nextOf(this.shownItems().filter((item) => found.has(item)), this.selected, way), true);
+    if (found && found.size) this.select(nextOf(this.foundItems(found), this.selected, way), true);
+  }
+
+  /**
+   * The boxes that are found, bin by bin, also in bins that are not shown.
+   * @param {Set<Item>} found
+   */
+  foundItems(found) {
+    return this.bins.there().flatMap((room) => this.view.items.get(room) || []).filter((item) => found.has(item));
   }
 
   /** The boxes that are shown, bin by bin. */
@@ -401,10 +434,12 @@ class Page {
     this.setPeel(0);
   }
 
-  /** @param {Group | null} group @param {boolean} isShown */
-  showGroup(group, isShown) {
-    if (isShown) this.hiddenGroups.delete(group);
-    else this.hiddenGroups.add(group);
+  /** @param {(Group | null)[]} groups @param {boolean} isShown */
+  showGroups(groups, isShown) {
+    for (const group of groups) {
+      if (isShown) this.hiddenGroups.delete(group);
+      else this.hiddenGroups.add(group);
+    }
     this.changed();
   }
 
@@ -413,8 +448,27 @@ class Page {
    * @param {Item} item
    */
   follow(item) {
+    this.flush();
     const at = this.middleOf(item);
-    if (!at) return;
+    if (at) this.moveInside(at);
+  }
+
+  /**
+   * Moves the drawing so far that a bin is inside, or that it begins there.
+   * @param {Room} room
+   */
+  reveal(room) {
+    this.flush();
+    const cell = this.view.cells.find((it) => it.room === room);
+    if (!cell) return;
+    const { x, y, w, h } = outerPlace(cell, this.view);
+    const { clientWidth, clientHeight } = any("stage");
+    const [dx, dy] = [shiftInside(x, w, clientWidth), shiftInside(y, h, clientHeight)];
+    if (dx || dy) this.glide(dx, dy);
+  }
+
+  /** @param {[number, number]} at a point of the stage */
+  moveInside(at) {
     const { clientWidth: width, clientHeight: height } = any("stage");
     const inside = at[0] > 40 && at[1] > 40 && at[0] < width - 40 && at[1] < height - 40;
     if (!inside) this.glide(width / 2 - at[0], height / 2 - at[1]);
@@ -484,19 +538,16 @@ class Page {
     updateBox(this, standing.size - visible.size);
     updateLayers(this);
     updateTable(this, standing, visible);
+    updateAlone(this);
   }
 }
 
 /**
- * What is said above each bin, in less and less words.
- * @param {Room[]} rooms @param {Map<Room, Item[]>} items @param {Scene} scene @returns {Map<Room, string[]>}
+ * How far what begins at a place has to go so that it is inside.
+ * @param {number} at @param {number} length @param {number} room
  */
-function captionsOf(rooms, items, scene) {
-  return new Map(rooms.map((room) => {
-    const inside = items.get(room) || [];
-    const [size, filled] = [sizeText(room.size, scene), filledText(room, inside)];
-    return [room, [`${size} · ${filled} · ${counted(inside.length, "box", "boxes")}`, `${size} · ${filled}`, filled]];
-  }));
+function shiftInside(at, length, room) {
+  return at < 0 ? -at : Math.min(0, Math.max(-at, room - at - length));
 }
 
 /**

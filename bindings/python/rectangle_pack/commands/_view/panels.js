@@ -1,4 +1,4 @@
-// ---- Text beside the drawing: the step, the box, groups, the table ----------------------------------------------------------
+// ---- Text beside the drawing: the step, the box ------------------------------------------------------------------------
 
 /**
  * The element of this id.
@@ -106,65 +106,4 @@ function listEntries(scene, isCutting) {
     return bin;
   });
   return [new Option("before the first cut"), ...bins];
-}
-
-const MOST_GROUPS = 200;
-
-/** The groups with their colours; each can be hidden. */
-class Legend {
-  /** @param {Look} look @param {(group: Group | null, isShown: boolean) => void} onChange */
-  constructor(look, onChange) {
-    this.look = look;
-    this.onChange = onChange;
-    this.list = any("groups");
-    /** @type {[HTMLCanvasElement, Group | null][]} */
-    this.swatches = [];
-    /** @type {HTMLInputElement[]} */
-    this.boxes = [];
-  }
-
-  /** @param {Scene} scene */
-  fill(scene) {
-    [this.swatches, this.boxes] = [[], []];
-    const alone = scene.items.filter((item) => !item.group).length;
-    const rows = scene.groups.slice(0, MOST_GROUPS).map((group) => this.row(group, group.name, group.count));
-    if (alone && scene.groups.length) rows.push(this.row(null, "no group", alone));
-    if (scene.groups.length > MOST_GROUPS) rows.push(made("li", `and ${scene.groups.length - MOST_GROUPS} more`));
-    this.list.replaceChildren(...rows);
-    any("groups-section").hidden = scene.groups.length === 0;
-    this.paint();
-  }
-
-  /** @param {Group | null} group @param {string} name @param {number} count */
-  row(group, name, count) {
-    const row = made("li");
-    const label = made("label");
-    const box = document.createElement("input");
-    box.type = "checkbox";
-    box.checked = true;
-    box.addEventListener("change", () => this.onChange(group, box.checked));
-    this.boxes.push(box);
-    const swatch = document.createElement("canvas");
-    swatch.width = swatch.height = 28;
-    swatch.setAttribute("aria-hidden", "true");
-    this.swatches.push([swatch, group]);
-    label.append(box, swatch, made("span", name, "name"), made("span", String(count), "count"));
-    row.append(label);
-    return row;
-  }
-
-  showAll() {
-    for (const box of this.boxes) box.checked = true;
-  }
-
-  paint() {
-    for (const [swatch, group] of this.swatches) {
-      const context = /** @type {CanvasRenderingContext2D} */ (swatch.getContext("2d"));
-      context.fillStyle = this.look.paint(context, group);
-      context.fillRect(0, 0, 28, 28);
-      context.lineWidth = 2;
-      context.strokeStyle = this.look.colours.edge;
-      context.strokeRect(1, 1, 26, 26);
-    }
-  }
 }

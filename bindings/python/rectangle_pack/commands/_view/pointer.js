@@ -31,7 +31,7 @@ class Pointers {
     const [x, y] = [event.offsetX, event.offsetY];
     const before = this.down.get(event.pointerId);
     if (!before) {
-      this.point(page.itemAt(x, y), x, y);
+      this.point(page.itemAt(x, y), x, y, page.bins.isSeveral && !page.bins.isAlone ? page.bins.at(x, y) : null);
       return;
     }
     const [dx, dy] = [x - before.x, y - before.y];
@@ -65,17 +65,32 @@ class Pointers {
     const wasOne = this.down.size === 1;
     this.down.delete(event.pointerId);
     if (wasOne && this.way < 4) {
-      const item = this.page.itemAt(event.offsetX, event.offsetY);
-      this.page.select(item, false);
-      if (event.pointerType !== "mouse") this.point(item, event.offsetX, event.offsetY);
+      this.click(event);
     }
   }
 
-  /** @param {Item | null} item @param {number} x @param {number} y */
-  point(item, x, y) {
+  /**
+   * Chooses the box that is there. Where several bins are shown, the one that is there is then alone.
+   * @param {PointerEvent} event
+   */
+  click({ offsetX: x, offsetY: y, pointerType }) {
     const { page } = this;
-    if (item !== page.hovered) page.redraw();
-    page.hovered = item;
+    const item = page.itemAt(x, y);
+    const room = page.bins.isAlone ? null : page.bins.at(x, y);
+    page.select(item, false);
+    if (room && page.bins.isSeveral) {
+      this.point(null, 0, 0);
+      page.bins.show(room);
+    } else if (pointerType !== "mouse") {
+      this.point(item, x, y);
+    }
+  }
+
+  /** @param {Item | null} item @param {number} x @param {number} y @param {Room | null} room */
+  point(item, x, y, room = null) {
+    const { page } = this;
+    if (item !== page.hovered || room !== page.bins.pointed) page.redraw();
+    [page.hovered, page.bins.pointed] = [item, room];
     updateTip(page, x, y);
   }
 

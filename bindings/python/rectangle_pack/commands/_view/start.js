@@ -26,6 +26,9 @@ function followButtons(page) {
   onClick("turned", () => page.setTurned(!page.isTurned));
   onClick("hide", () => page.hideSelected());
   onClick("show-all", () => page.showAll());
+  onClick("all-bins", () => page.bins.showAll());
+  onClick("bin-before", () => page.bins.next(-1));
+  onClick("bin-after", () => page.bins.next(1));
   onClick("theme", () => page.setDark(!page.isDark));
   onClick("keys", () => showHelp(page));
   onClick("help-close", () => element("help", HTMLDialogElement).close());
@@ -52,7 +55,11 @@ function followScenes(page, scenes) {
   const list = element("scene", HTMLSelectElement);
   list.replaceChildren(...scenes.map((scene, index) => new Option(scene.title, String(index))));
   any("scene-field").hidden = scenes.length < 2;
-  onValue("scene", "change", (value) => page.open(Number(value)));
+  list.title = list.selectedOptions[0]?.text || "";
+  onValue("scene", "change", (value) => {
+    list.title = list.selectedOptions[0]?.text || "";
+    page.open(Number(value));
+  });
 }
 
 function start() {
@@ -64,6 +71,7 @@ function start() {
   followScenes(page, scenes);
   followKeys(page);
   followPointers(page);
+  followTitles();
   DARK.addEventListener("change", () => page.followTheme());
   page.followTheme();
   new ResizeObserver(() => page.layout()).observe(any("stage"));

@@ -9,7 +9,8 @@ function speak(page, text) {
   page.spoken = window.setTimeout(() => {
     const box = page.selected ? spokenItem(page.selected, page.scene) : "";
     // What is the same is not said again.
-    for (const [id, said] of [["status", text], ["spoken", box]]) {
+    const bin = page.bins.chosen ? spokenBin(page, page.bins.chosen) : "";
+    for (const [id, said] of [["status", text], ["spoken", box], ["spoken-bin", bin]]) {
       if (any(id).textContent !== said) any(id).textContent = said;
     }
   }, 120);
@@ -53,12 +54,14 @@ function updateStep(page) {
  * @param {Page} page
  */
 function updateEmpty(page) {
-  const { scene } = page;
-  const isEmpty = scene.roomsAt(page.shownStep()).length === 0;
-  fillOrHide("empty", !isEmpty ? "" : scene.rooms.length ? "There is no bin yet." : "There is no bin.");
+  const { scene, view, bins: { alone } } = page;
+  const isEmpty = view.cells.length === 0;
+  const none = alone ? "This bin is not there yet." : scene.rooms.length ? "There is no bin yet." : "There is no bin.";
+  fillOrHide("empty", isEmpty ? none : "");
   const boxes = page.shownItems();
-  any("flat").setAttribute("aria-label", isEmpty ? "Drawing, empty" : `Drawing of ${
-    counted(scene.roomsAt(page.shownStep()).length, "bin", "bins")} with ${counted(boxes.length, "box", "boxes")}`);
+  const shown = alone ? `bin ${alone.name} alone` : counted(view.cells.length, "bin", "bins");
+  any("flat").setAttribute("aria-label", isEmpty ? "Drawing, empty" : `Drawing of ${shown} with ${
+    counted(boxes.length, "box", "boxes")}`);
 }
 
 /** @param {Page} page @param {number} hidden */
@@ -73,7 +76,7 @@ function updateBox(page, hidden) {
   all.textContent = `Show all boxes (${hidden} hidden)`;
   const found = page.view.matches;
   const rank = found && selected && found.has(selected)
-    ? `${page.shownItems().filter((item) => found.has(item)).indexOf(selected) + 1} of ` : "";
+    ? `${page.foundItems(found).indexOf(selected) + 1} of ` : "";
   any("found").textContent = !found ? "" : found.size ? `${rank}${found.size}` : elsewhere(page);
 }
 
@@ -114,14 +117,24 @@ function updateTable(page, standing, visible) {
  * @param {Page} page @param {number} x @param {number} y
  */
 function updateTip(page, x, y) {
-  const tip = any("tip");
-  const { hovered, scene } = page;
-  tip.hidden = hovered === null;
+  const { hovered, scene, bins: { pointed } } = page;
+  any("tip").hidden = hovered === null && pointed === null;
+  if (pointed && !hovered) fillTip(binLines(page, pointed, "A click shows it alone"), x, y);
   if (!hovered) return;
   const lines = [measured(hovered.size, scene), `no. ${hovered.number}, at ${placeText(hovered.at, scene)}`];
   if (hovered.group) lines.push(`group ${hovered.group.name}`);
   if (hovered.note) lines.push(hovered.note);
-  tip.replaceChildren(made("strong", hovered.name), ...lines.map((line) => made("span", line)));
+  fillTip([made("strong", hovered.name), ...lines.map((line) => made("span", line))], x, y);
+}
+
+/**
+ * Shows lines beside a point of the stage.
+ * @param {HTMLElement[]} lines @param {number} x @param {number} y
+ */
+function fillTip(lines, x, y) {
+  const tip = any("tip");
+  tip.hidden = false;
+  tip.replaceChildren(...lines);
   const { clientWidth: width, clientHeight: height } = any("stage");
   tip.style.left = `${Math.max(4, Math.min(x + 14, width - tip.offsetWidth - 4))}px`;
   tip.style.top = `${y + 18 + tip.offsetHeight > height ? Math.max(4, y - tip.offsetHeight - 10) : y + 18}px`;

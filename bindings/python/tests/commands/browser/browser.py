@@ -119,6 +119,10 @@ class BrowserCase(ViewCase):
         self.told_of("performance")
         self.driver.get(page.as_uri())
         self.settle()
+        self.look_for_stage()
+
+    def look_for_stage(self) -> None:
+        """Where the drawing is now."""
         self.stage: list[float] = self.js(STAGE)
 
     def prefer(self, colours: str, motion: str = "no-preference") -> None:
@@ -193,6 +197,25 @@ class BrowserCase(ViewCase):
     def point(self, x: int, y: int, kind: str = "mouseMoved", **more: object) -> None:
         """Moves the mouse to a point of the drawing, or presses, releases or turns its wheel there."""
         self.told("Input.dispatchMouseEvent", {"type": kind, "x": self.stage[0] + x, "y": self.stage[1] + y, **more})
+
+    def click_at(self, x: int, y: int) -> None:
+        """Clicks at a point of the drawing."""
+        self.point(x, y, "mousePressed", button="left", buttons=1, clickCount=1)
+        self.point(x, y, "mouseReleased", button="left", clickCount=1)
+        self.settle()
+
+    def tap(self, x: int, y: int) -> None:
+        """Taps with a finger on a point of the drawing."""
+        self.touch("touchStart", (x, y))
+        self.touch("touchEnd")
+        self.settle()
+
+    def fills(self, count: int) -> list[list[int]]:
+        """The colours that groups have in this theme, in their order."""
+        found: list[str] = self.js(
+            "const style = getComputedStyle(document.documentElement);"
+            "return [...Array(arguments[0]).keys()].map((i) => style.getPropertyValue(`--group-${i}`))", count)
+        return [[int(it.strip()[at:at + 2], 16) for at in (1, 3, 5)] for it in found]
 
     def drag(self, start: tuple[int, int], end: tuple[int, int]) -> None:
         self.point(*start, "mousePressed", button="left", buttons=1, clickCount=1)
