@@ -201,9 +201,9 @@ class Said(SheetCase):
         self.assertEqual(index, str(self.out / "x.json"))
 
     def test_what_is_filled_is_rounded_down(self) -> None:
-        # 3 x 3 and 2 x 5 are at least on a page of 5x5, of which they fill 19 of 25: 76 %. One pixel of 45x45 is 0.04 %.
+        # 3x3 and 2x5 fill 19 of 24 pixels, which are fewer than 5x5: 79.17 %. One pixel of 3x3 is 11.11 %, of 45x45 0.05 %.
         self.write({"a": full(3, 3), "b": full(2, 5)})
-        self.assertIn(": 5x5, 2 sprites, 76 % filled\n", run(self.source, "-o", self.out / "x", "--padding", 0).out)
+        self.assertIn(": 3x8, 2 sprites, 79.1 % filled\n", run(self.source, "-o", self.out / "x", "--padding", 0).out)
         self.clean()
         self.write({"a": full(1, 1)})
         for side, part in ((3, "11.1"), (45, "under 0.1")):

@@ -64,7 +64,7 @@ class Scales(ScaleCase):
     def test_drawn_sprites_of_squares(self) -> None:
         """Sprites of which each pixel is a square have the same pixels at each scale, also trimmed and with margins."""
         r = random.Random(7)
-        small = {f"s{number}": framed(noise(r, r.randint(1, 9), r.randint(1, 9)), *(r.randint(0, 3) for _ in range(4)))
+        small = {f"s{number}": framed(opaque(r, r.randint(1, 9), r.randint(1, 9)), *(r.randint(0, 3) for _ in range(4)))
                  for number in range(30)}
         for number, words in enumerate((
             ("--trim",), ("--trim", "--power-of-two"), ("--trim", "--square", "--multiple-of", 3, "--alias"), ())):

@@ -81,8 +81,12 @@ def kept_part(picture: Picture) -> tuple[int, int, int, int]:
 
 
 def resized(picture: Picture, size: Size) -> Picture:
-    """The picture in another size. Each pixel is the mean of those in its place, in which what is clear has no colour."""
-    return picture if picture.size == size else picture.resize(size, _pillow().BOX)
+    """The picture in a smaller size. Each pixel is the mean of those in its place, in which what is clear has no colour."""
+    if picture.size == size:
+        return picture
+    by = picture.width // size[0]
+    # Of whole squares the mean is rounded once.
+    return picture.reduce(by) if picture.size == (by * size[0], by * size[1]) else picture.resize(size, _pillow().BOX)
 
 
 def digest(picture: Picture) -> bytes:
