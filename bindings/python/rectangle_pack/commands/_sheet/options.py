@@ -144,8 +144,9 @@ def add_words(parser: argparse.ArgumentParser) -> None:
         help=f"what is packed first: {', '.join(get_args(Heuristic))}, or the best of all (best)")
     add("--page", type=Path, metavar="FILE", help="write an HTML page to look at")
     add("--json", action="store_true",
-        help="print what was decided as JSON: pages, whose filled is a part of 1; sprites, whose source is where the kept "
-        "part was in the whole sprite, with the whole's size; files")
+        help="print what was decided as JSON: pages at the first scale, whose filled is a part of 1; sprites, whose source is "
+        "where the kept part was in the whole sprite, with the whole's size; animations, whose page is null where their frames "
+        "are on several; files")
 
 
 def _no_side(multiple: int, words: argparse.Namespace) -> Wrong:

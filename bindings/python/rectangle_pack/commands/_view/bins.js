@@ -138,6 +138,7 @@ function drawBinMarks(context, look, view) {
 function spokenBin(page, room) {
   const rooms = page.bins.there();
   const [caption] = page.view.captions.get(room) || [""];
+  if (!rooms.includes(room)) return `${room.name}, not there yet`;
   const how = page.bins.isAlone ? "shown alone" : "Enter shows it alone";
   return `${room.name}, bin ${rooms.indexOf(room) + 1} of ${rooms.length}, ${caption.replace(/ · /g, ", ")}, ${how}`;
 }
@@ -158,7 +159,6 @@ function updateAlone(page) {
     const said = `${rank}${caption}`.replace(/ (?!·)/g, FIRM).replace(/·\u00a0/g, "· ");
     any("alone-name").replaceChildren(made("strong", alone.name), ` ${said}`);
   }
-  any("flat").classList.toggle("opens", page.bins.isSeveral && !alone);
   updateBinTip(page);
 }
 

@@ -91,6 +91,7 @@ class Pointers {
     const { page } = this;
     if (item !== page.hovered || room !== page.bins.pointed) page.redraw();
     [page.hovered, page.bins.pointed] = [item, room];
+    page.flatCanvas.classList.toggle("opens", room !== null);
     updateTip(page, x, y);
   }
 
