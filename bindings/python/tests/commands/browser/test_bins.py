@@ -3,7 +3,6 @@ from __future__ import annotations
 
 import unittest
 
-from rectangle_pack.commands._filled import filled_text
 from rectangle_pack.commands._scene import Item, Room, Scene, Step
 
 from ..test_view_tools import cut_scene, replay
@@ -252,23 +251,6 @@ class Bins(BrowserCase):
             self.assertEqual(self.alone(), "bin 1")
             self.assertEqual(self.js("return document.documentElement.scrollWidth"), size[0])
             self.assertGreater(self.js("return document.getElementById('stage').clientHeight"), 150)
-
-
-class Filled(BrowserCase):
-    def test_the_picture_rounds_as_the_text_does(self) -> None:
-        """The share of a bin is said by the rule of the commands."""
-        parts = [(1, 3), (2, 3), (999, 1000), (9999, 10_000), (1, 1001), (1, 7), (500, 1000), (3, 3)]
-        rooms = [Room(f"bin {i}", (whole, 1, 1)) for i, (_, whole) in enumerate(parts)]
-        items = [Item(i, "x", f"bin {i}", (0, 0, 0), (part, 1, 1)) for i, (part, _) in enumerate(parts)]
-        self.open(Scene("parts", [*rooms, Room("empty", (2, 2, 1))], [Step("packed", items)]))
-        seen = []
-        for _ in [*parts, None]:
-            self.keys("b")
-            seen.append(self.text("tip").split(" · ")[1])
-        self.assertEqual(seen, [
-            "33.3 % filled", "66.6 % filled", "99.9 % filled", "99.9 % filled", "under 0.1 % filled", "14.2 % filled",
-            "50 % filled", "100 % filled", "0 % filled"])
-        self.assertEqual(seen[:-1], [f"{filled_text(*part)} filled" for part in parts])
 
 
 if __name__ == "__main__":
