@@ -96,9 +96,9 @@ class Stepping(BrowserCase):
     """Boxes keep their colours: at points that are away from all lines the picture has the colour of the legend."""
 
     def plain(self, points: Sequence[tuple[int, int]], margin: int) -> dict[tuple[int, int], list[int]]:
-        """The colours at those points round which there is one colour for so many pixels."""
-        shifts = range(-margin, margin + 1, 3)
-        around = [(x + dx, y + dy) for x, y in points for dx in shifts for dy in shifts]
+        """The colours at those points from which there is one colour for so many pixels in each direction: lines are thin."""
+        shifts = range(-margin, margin + 1)
+        around = [it for x, y in points for by in shifts for it in ((x + by, y), (x, y + by))]
         colours, each = self.pixels(self.picture(), around), len(around) // len(points)
         found = {}
         for index, point in enumerate(points):
