@@ -15,7 +15,7 @@ use Rattle.rectangle_pack.specs.Closures.{Answers}
 use Rattle.rectangle_pack.specs.Groups.{Collection}
 use Rattle.rectangle_pack.specs.KeptBins.{locations_in}
 use Rattle.rectangle_pack.specs.Exclusions.{are_excluded, is_listed}
-use Rattle.rectangle_pack.specs.Packing.{Rules, rules_by, Stage, at_start, excludes_by, AreKeptApart, PackingDone}
+use Rattle.rectangle_pack.specs.Packing.{Rules, rules_by, Members, Stage, at_start, excludes_by, AreAllPlaced, AreKeptApart, PackingDone}
 use Rattle.rectangle_pack.specs.Placed.{ArePlacedWhole}
 use Rattle.rectangle_pack.specs.Session.{numbered}
 use Rattle.rectangle_pack_sections.proofs.lemmas.cuts.Counting.{apart_from_counts, filled_one}
@@ -37,7 +37,7 @@ use Rattle.rectangle_pack_c.proofs.CollectedLemmas.{lookup_numbered, AreHeld, co
 use Rattle.rectangle_pack_c.proofs.WholeLemmas.{none_in, in_cases, in_kept, pairs_none, homed, placed_for, placed_once, one_home, home_of_key, key_listed}
 
 -- the value that is there
-found_and : {X : Type 0} (P : X → Type 0) (o : Option X) → IsSomeAnd o P → (x : X) × (o ≡ Some x) × P x
+pub found_and : {X : Type 0} (P : X → Type 0) (o : Option X) → IsSomeAnd o P → (x : X) × (o ≡ Some x) × P x
 found_and P None h = absurd h
 found_and P (Some x) h = (x, refl, h)
 
@@ -128,12 +128,100 @@ lookup_bin bins i before is =
     let f : RpBin → Bin = λ b. new_bin (bin_size b) in
     found_map f (slice_get bins i) before (sym (slice_get-map f bins i) ∙ sym (lookup_numbered 0 (map f bins) i i (omega arith)) ∙ is)
 
+-- what is read past the end of a list of boxes
+pub no_box : RpBox
+no_box = record { width = 0; height = 0; depth = 0; group = 0 }
+
+-- the home of a box in a named group
+pub home_named : (boxes : List RpBox) (exclusions : List RpExclusion) (all : Collection ℕ ℕ) → IsCollected boxes exclusions all
+    → (homes : List (Group ℕ ℕ × ℕ)) (ps : List (Placement ℕ ℕ)) → ArePlacedWhole nat_cmp nat_cmp group_order all.sizes all.groups homes ps
+    → (i : ℕ) (b : RpBox) (q : Placement ℕ ℕ) → slice_get boxes i ≡ Some b → Contains ps q → q.id ≡ i → 0 < b.group
+    → (home : Group ℕ ℕ × ℕ) × Contains homes home × (home.0 ≡ Grouped b.group) × (home.1 ≡ q.bin)
+home_named boxes exclusions all collected homes ps are i b q box inside id named =
+    let held = collected_held boxes exclusions no_box all collected in
+    let (home, there, has) = homed all.sizes all.groups homes ps are q inside in
+    let is_b : get_or boxes i no_box ≡ b = get_or_from_slice_get boxes i b no_box box in
+    let member : (q.id < length boxes) × (group_of q.id (get_or boxes q.id no_box) ≡ home.0) =
+    All-contains (λ i. (i < length boxes) × (group_of i (get_or boxes i no_box) ≡ home.0)) has.ids q.id (held.members home.0 has.ids has.listed) has.member in
+    let not_alone : (b.group == 0) ≡ false = grind (arith, nat_tests) in
+    let group : group_of q.id (get_or boxes q.id no_box) ≡ Grouped b.group = rw (id, is_b, not_alone) refl in
+    (home, there, sym member.1 ∙ group, has.bin)
+
+-- groups that are excluded have different homes
+pub homes_apart : (boxes : List RpBox) (exclusions : List RpExclusion) (all : Collection ℕ ℕ) → IsCollected boxes exclusions all
+    → (homes : List (Group ℕ ℕ × ℕ)) → All (λ e. e.one ≢ e.other) exclusions → AreKeptApart group_order nat_cmp all.partners homes
+    → (ha hb : Group ℕ ℕ × ℕ) → Contains homes ha → Contains homes hb → (e : RpExclusion) → Contains exclusions e
+    → ha.0 ≡ Grouped e.one → hb.0 ≡ Grouped e.other → ha.1 ≢ hb.1
+homes_apart boxes exclusions all collected homes differ apart ha hb in_a in_b e inside key_a key_b bins =
+    let pair : are_pair (Grouped e.one) (Grouped e.other) e ≡ true = rw (group_same (Grouped e.one), group_same (Grouped e.other)) refl in
+    let there : are_excluded group_order all.partners (Grouped e.one) (Grouped e.other) ≡ true =
+    collected.excluded (Grouped e.one) (Grouped e.other) ∙ any_found (are_pair (Grouped e.one) (Grouped e.other)) exclusions e inside pair in
+    let forth : are_excluded group_order all.partners ha.0 hb.0 ≡ true = rw (key_a, key_b) there in
+    let back : are_excluded group_order all.partners hb.0 ha.0 ≡ true =
+    or_comm (is_listed group_order all.partners hb.0 ha.0) (is_listed group_order all.partners ha.0 hb.0) ∙ forth in
+    by ha hb forth back bins (key_a, key_b)
+    (pair_of (λ x y. are_excluded group_order all.partners x.0 y.0 ≡ true → is_at (nat_cmp x.1) y.1 ≡ false) homes apart ha hb in_a in_b)
+  where
+    unequal : e.one ≢ e.other
+    unequal = All-contains (λ (e : RpExclusion). e.one ≢ e.other) exclusions e differ inside
+
+    by : (x y : Group ℕ ℕ × ℕ) → are_excluded group_order all.partners x.0 y.0 ≡ true → are_excluded group_order all.partners y.0 x.0 ≡ true → x.1 ≡ y.1
+        → (x.0 ≡ Grouped e.one) × (y.0 ≡ Grouped e.other)
+        → (x ≡ y) ⊎ ((are_excluded group_order all.partners x.0 y.0 ≡ true → is_at (nat_cmp x.1) y.1 ≡ false)
+        ⊎ (are_excluded group_order all.partners y.0 x.0 ≡ true → is_at (nat_cmp y.1) x.1 ≡ false)) → ⊥
+    by x y forth back bins keys (inl same) =
+        let groups : Grouped e.one ≡ Grouped e.other = sym keys.0 ∙ ap (λ h. h.0) same ∙ keys.1 in
+        let numbers : e.one ≡ e.other = cc in
+        unequal numbers
+    by x y forth back bins keys (inr (inl h)) = absurd (let yes : is_at (nat_cmp x.1) y.1 ≡ true = rw bins (nat_same y.1) in let none = h forth in cc)
+    by x y forth back bins keys (inr (inr h)) = absurd (let yes : is_at (nat_cmp y.1) x.1 ≡ true = rw bins (nat_same y.1) in let none = h back in cc)
+
+-- what all groups of a packing that places all are placed as, in new bins
+module _ (bins : List RpBin) (may : Answers) (excludes : List (Group ℕ ℕ × ℕ) → Group ℕ ℕ → ℕ → Bool) (order : List ℕ)
+    (groups : List (Group ℕ ℕ × Members ℕ)) (ps : List (Placement ℕ ℕ)) (last : Stage (Group ℕ ℕ) ℕ) (tests : ℕ)
+    (placed : AreAllPlaced (rules_by nat_cmp nat_cmp may) excludes order groups (at_start (new_bins bins)) ps last tests) where
+  -- the bin of a placement, and what it has become
+  pub record StandsIn (q : Placement ℕ ℕ) : Type 0 where
+    pub bin : RpBin
+    pub is : slice_get bins q.bin ≡ Some bin
+    pub changed : IsChanged IsRecut nat_cmp ps last.bins q.bin (new_bin (bin_size bin))
+
+  pub stands_in : (q : Placement ℕ ℕ) → Contains ps q → StandsIn q
+  stands_in q inside =
+      let rules : Rules ℕ ℕ = rules_by nat_cmp nat_cmp may in
+      let keys = keys-placed rules excludes order groups (at_start (new_bins bins)) ps last tests placed in
+      let known = All-contains (λ (p : Placement ℕ ℕ). IsSome (lookup (is_at (nat_cmp p.bin)) last.bins)) ps q
+      (known-placed rules excludes nat_cmp_total order groups (at_start (new_bins bins)) ps last tests placed) inside in
+      let there = some_of (lookup (is_at (nat_cmp q.bin)) (new_bins bins))
+      (sym (is_some-keys (is_at (nat_cmp q.bin)) last.bins (new_bins bins) keys) ∙ known) in
+      let (bin, is, before) = lookup_bin bins q.bin there.0 there.1 in
+      record {
+        bin = bin;
+        is = is;
+        changed = changed-all IsFrame-recut rules nat_cmp_total (KeptBySteps-recut may) excludes order groups (at_start (new_bins bins)) ps last
+            tests placed q.bin (new_bin (bin_size bin)) (rw (← before) there.1);
+      }
+
+  pub inside_bin : (q : Placement ℕ ℕ) (c : Contains ps q) (s : StandsIn q) → IsInside (bin_size s.bin) q.location
+  inside_bin q c s =
+      let size = bin_size s.bin in
+      let first : All (IsInside size) (whole size ∷ []) = All-cons (IsInside size) (whole size) []
+      (record { within_x = omega arith; within_y = omega arith; within_z = omega arith }) (All-nil (IsInside size)) in
+      All-contains (IsInside size) (s.changed.after.sections ++ locations_in nat_cmp ps q.bin) q.location (s.changed.framed.inside size first)
+      (Contains-append_right s.changed.after.sections (locations_in nat_cmp ps q.bin) q.location
+      (in_kept (λ (p : Placement ℕ ℕ). p.location) (λ p. is_at (nat_cmp p.bin) q.bin) ps q c (nat_same q.bin)))
+
+  pub apart_in : (a b : Placement ℕ ℕ) → Contains ps a → Contains ps b → a.id ≢ b.id → b.bin ≡ a.bin → AreApart a.location b.location
+  apart_in a b ca cb ne same =
+      let s = stands_in a ca in
+      let boxes = s.changed.after.sections ++ locations_in nat_cmp ps a.bin in
+      let pairs = apart_from_counts boxes (λ c. rw (s.changed.framed.cells c) (filled_one c (whole (bin_size s.bin)))) in
+      pairs_kept (λ p. is_at (nat_cmp p.bin) a.bin) ps a b (pairs_right AreApart s.changed.after.sections (locations_in nat_cmp ps a.bin) pairs) ca cb
+      (nat_same a.bin) (rw same (nat_same a.bin)) ne
+
 module _ (boxes : List RpBox) (exclusions : List RpExclusion) (all : Collection ℕ ℕ) (collected : IsCollected boxes exclusions all) (ps : List (Placement ℕ ℕ))
     (homes : List (Group ℕ ℕ × ℕ)) (moved : IsPermutation (keys_of all.groups) (map (λ h. h.0) homes))
     (are : ArePlacedWhole nat_cmp nat_cmp group_order all.sizes all.groups homes ps) where
-  no_box : RpBox
-  no_box = record { width = 0; height = 0; depth = 0; group = 0 }
-
   held : AreHeld (λ i. get_or boxes i no_box) (length boxes) all
   held = collected_held boxes exclusions no_box all collected
 
@@ -169,19 +257,6 @@ module _ (boxes : List RpBox) (exclusions : List RpExclusion) (all : Collection 
       let (home, inside, named) = home_of_key homes key
       (Contains-permutation (keys_of all.groups) (map (λ h. h.0) homes) key moved (key_listed all.groups key ids is)) in
       placed_for all.sizes all.groups homes ps are home inside ids (rw named is) i member
-
-  -- the home of a box in a named group
-  home_is : (i : ℕ) (b : RpBox) (q : Placement ℕ ℕ) → slice_get boxes i ≡ Some b → Contains ps q → q.id ≡ i → 0 < b.group
-      → (home : Group ℕ ℕ × ℕ) × Contains homes home × (home.0 ≡ Grouped b.group) × (home.1 ≡ q.bin)
-  home_is i b q box inside id named =
-      let (home, there, has) = homed all.sizes all.groups homes ps are q inside in
-      let is_b : get_or boxes i no_box ≡ b = get_or_from_slice_get boxes i b no_box box in
-      let member : (q.id < length boxes) × (group_of q.id (get_or boxes q.id no_box) ≡ home.0) =
-      All-contains (λ i. (i < length boxes) × (group_of i (get_or boxes i no_box) ≡ home.0)) has.ids q.id (held.members home.0 has.ids has.listed) has.member in
-      let key = member.1 in
-      let not_alone : (b.group == 0) ≡ false = grind (arith, nat_tests) in
-      let group : group_of q.id (get_or boxes q.id no_box) ≡ Grouped b.group = rw (id, is_b, not_alone) refl in
-      (home, there, sym key ∙ group, has.bin)
 
   -- what a box stands at is its placement
   pub record ComesFrom (i : ℕ) (b : RpBox) (p : RpPlacement) : Type 0 where
@@ -219,8 +294,8 @@ module _ (boxes : List RpBox) (exclusions : List RpExclusion) (all : Collection 
     stand_together i j a b p q s t named same =
         let f = comes_from i a p s in
         let g = comes_from j b q t in
-        let (ha, in_a, key_a, bin_a) = home_is i a f.from s.box f.inside f.id named in
-        let (hb, in_b, key_b, bin_b) = home_is j b g.from t.box g.inside g.id (rw (← same) named) in
+        let (ha, in_a, key_a, bin_a) = home_named boxes exclusions all collected homes ps are i a f.from s.box f.inside f.id named in
+        let (hb, in_b, key_b, bin_b) = home_named boxes exclusions all collected homes ps are j b g.from t.box g.inside g.id (rw (← same) named) in
         let one = one_home homes one_each ha hb in_a in_b (key_a ∙ ap (λ n. Grouped n) same ∙ sym key_b) in
         f.bin ∙ sym bin_a ∙ one ∙ bin_b ∙ sym g.bin
 
@@ -229,85 +304,33 @@ module _ (boxes : List RpBox) (exclusions : List RpExclusion) (all : Collection 
     keep_apart differ apart i j a b p q s t named others e inside one other same_bin =
         let f = comes_from i a p s in
         let g = comes_from j b q t in
-        let (ha, in_a, key_a, bin_a) = home_is i a f.from s.box f.inside f.id named in
-        let (hb, in_b, key_b, bin_b) = home_is j b g.from t.box g.inside g.id others in
-        let pair : are_pair (Grouped a.group) (Grouped b.group) e ≡ true = rw (one, other, group_same (Grouped e.one), group_same (Grouped e.other)) refl in
-        let there : are_excluded group_order all.partners (Grouped a.group) (Grouped b.group) ≡ true =
-        collected.excluded (Grouped a.group) (Grouped b.group) ∙ any_found (are_pair (Grouped a.group) (Grouped b.group)) exclusions e inside pair in
-        let forth : are_excluded group_order all.partners ha.0 hb.0 ≡ true = rw (key_a, key_b) there in
-        let back : are_excluded group_order all.partners hb.0 ha.0 ≡ true =
-        or_comm (is_listed group_order all.partners hb.0 ha.0) (is_listed group_order all.partners ha.0 hb.0) ∙ forth in
-        let bins : ha.1 ≡ hb.1 = bin_a ∙ sym f.bin ∙ same_bin ∙ g.bin ∙ sym bin_b in
-        by ha hb forth back bins (key_a, key_b) (pair_of (λ x y. are_excluded group_order all.partners x.0 y.0 ≡ true → is_at (nat_cmp x.1) y.1 ≡ false) homes apart ha hb in_a in_b)
-      where
-        unequal : e.one ≢ e.other
-        unequal = All-contains (λ (e : RpExclusion). e.one ≢ e.other) exclusions e differ inside
-
-        by : (x y : Group ℕ ℕ × ℕ) → are_excluded group_order all.partners x.0 y.0 ≡ true → are_excluded group_order all.partners y.0 x.0 ≡ true → x.1 ≡ y.1
-            → (x.0 ≡ Grouped a.group) × (y.0 ≡ Grouped b.group)
-            → (x ≡ y) ⊎ ((are_excluded group_order all.partners x.0 y.0 ≡ true → is_at (nat_cmp x.1) y.1 ≡ false)
-            ⊎ (are_excluded group_order all.partners y.0 x.0 ≡ true → is_at (nat_cmp y.1) x.1 ≡ false)) → ⊥
-        by x y forth back bins keys (inl same) =
-            let groups : Grouped a.group ≡ Grouped b.group = sym keys.0 ∙ ap (λ h. h.0) same ∙ keys.1 in
-            let numbers : a.group ≡ b.group = cc in
-            unequal (sym one ∙ numbers ∙ other)
-        by x y forth back bins keys (inr (inl h)) = absurd (let yes : is_at (nat_cmp x.1) y.1 ≡ true = rw bins (nat_same y.1) in let none = h forth in cc)
-        by x y forth back bins keys (inr (inr h)) = absurd (let yes : is_at (nat_cmp y.1) x.1 ≡ true = rw bins (nat_same y.1) in let none = h back in cc)
+        let (ha, in_a, key_a, bin_a) = home_named boxes exclusions all collected homes ps are i a f.from s.box f.inside f.id named in
+        let (hb, in_b, key_b, bin_b) = home_named boxes exclusions all collected homes ps are j b g.from t.box g.inside g.id others in
+        homes_apart boxes exclusions all collected homes differ apart ha hb in_a in_b e inside (key_a ∙ ap (λ n. Grouped n) one)
+        (key_b ∙ ap (λ n. Grouped n) other) (bin_a ∙ sym f.bin ∙ same_bin ∙ g.bin ∙ sym bin_b)
 
     module _ (bins : List RpBin) (may : Answers) (after : List (ℕ × Bin))
         (done : PackingDone group_order (rules_by nat_cmp nat_cmp may) all (new_bins bins) ps after) where
-      -- the bin of a placement, and what it has become
-      record StandsIn (q : Placement ℕ ℕ) : Type 0 where
-        bin : RpBin
-        is : slice_get bins q.bin ≡ Some bin
-        changed : IsChanged IsRecut nat_cmp ps after q.bin (new_bin (bin_size bin))
+      abbrev excludes : List (Group ℕ ℕ × ℕ) → Group ℕ ℕ → ℕ → Bool
+      excludes = excludes_by group_order nat_cmp all.partners
 
-      stands_in : (q : Placement ℕ ℕ) → Contains ps q → StandsIn q
-      stands_in q inside =
-          let rules : Rules ℕ ℕ = rules_by nat_cmp nat_cmp may in
-          let excludes = excludes_by group_order nat_cmp all.partners in
-          let order = map (λ (o : ℕ × ℕ). o.1) done.bin_order in
-          let last : Stage (Group ℕ ℕ) ℕ = record { bins = after; homes = done.homes } in
-          let keys = keys-placed rules excludes order done.groups (at_start (new_bins bins)) ps last done.tests done.placed in
-          let known = All-contains (λ (p : Placement ℕ ℕ). IsSome (lookup (is_at (nat_cmp p.bin)) after)) ps q
-          (known-placed rules excludes nat_cmp_total order done.groups (at_start (new_bins bins)) ps last done.tests done.placed) inside in
-          let there = some_of (lookup (is_at (nat_cmp q.bin)) (new_bins bins))
-          (sym (is_some-keys (is_at (nat_cmp q.bin)) after (new_bins bins) keys) ∙ known) in
-          let (bin, is, before) = lookup_bin bins q.bin there.0 there.1 in
-          record {
-            bin = bin;
-            is = is;
-            changed = changed-all IsFrame-recut rules nat_cmp_total (KeptBySteps-recut may) excludes order done.groups (at_start (new_bins bins)) ps last
-                done.tests done.placed q.bin (new_bin (bin_size bin)) (rw (← before) there.1);
-          }
+      abbrev order : List ℕ
+      order = map (λ (o : ℕ × ℕ). o.1) done.bin_order
 
-      inside_bin : (q : Placement ℕ ℕ) (c : Contains ps q) (s : StandsIn q) → IsInside (bin_size s.bin) q.location
-      inside_bin q c s =
-          let size = bin_size s.bin in
-          let first : All (IsInside size) (whole size ∷ []) = All-cons (IsInside size) (whole size) []
-          (record { within_x = omega arith; within_y = omega arith; within_z = omega arith }) (All-nil (IsInside size)) in
-          All-contains (IsInside size) (s.changed.after.sections ++ locations_in nat_cmp ps q.bin) q.location (s.changed.framed.inside size first)
-          (Contains-append_right s.changed.after.sections (locations_in nat_cmp ps q.bin) q.location
-          (in_kept (λ (p : Placement ℕ ℕ). p.location) (λ p. is_at (nat_cmp p.bin) q.bin) ps q c (nat_same q.bin)))
-
-      apart_in : (a b : Placement ℕ ℕ) → Contains ps a → Contains ps b → a.id ≢ b.id → b.bin ≡ a.bin → AreApart a.location b.location
-      apart_in a b ca cb ne same =
-          let s = stands_in a ca in
-          let boxes = s.changed.after.sections ++ locations_in nat_cmp ps a.bin in
-          let pairs = apart_from_counts boxes (λ c. rw (s.changed.framed.cells c) (filled_one c (whole (bin_size s.bin)))) in
-          pairs_kept (λ p. is_at (nat_cmp p.bin) a.bin) ps a b (pairs_right AreApart s.changed.after.sections (locations_in nat_cmp ps a.bin) pairs) ca cb
-          (nat_same a.bin) (rw same (nat_same a.bin)) ne
+      abbrev last : Stage (Group ℕ ℕ) ℕ
+      last = record { bins = after; homes = done.homes }
 
       pub packed_placed : length placements ≡ length boxes → ArePlaced bins boxes placements
       packed_placed as_many = record {
         as_many = as_many;
         inside = λ i b p s.
             let f = comes_from i b p s in
-            let in_bin = stands_in f.from f.inside in
-            rw (f.bin, in_bin.is, f.location) (inside_bin f.from f.inside in_bin);
+            let in_bin = stands_in bins may excludes order done.groups ps last done.tests done.placed f.from f.inside in
+            rw (f.bin, in_bin.is, f.location) (inside_bin bins may excludes order done.groups ps last done.tests done.placed f.from f.inside in_bin);
         apart = λ i j a b p q s t ne same.
             let f = comes_from i a p s in
             let g = comes_from j b q t in
-            rw (f.location, g.location) (apart_in f.from g.from f.inside g.inside (λ e. ne (sym f.id ∙ e ∙ g.id)) (sym g.bin ∙ sym same ∙ f.bin));
+            rw (f.location, g.location) (apart_in bins may excludes order done.groups ps last done.tests done.placed f.from g.from f.inside g.inside
+            (λ e. ne (sym f.id ∙ e ∙ g.id)) (sym g.bin ∙ sym same ∙ f.bin));
         together = stand_together;
       }

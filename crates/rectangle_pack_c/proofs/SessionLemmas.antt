@@ -80,7 +80,7 @@ numbers_from n (p ∷ ps) r h = by (in_cases (record { number = n; id = p.id; bi
     by (inl e) ih = omega (arith, ap (λ (x : Outstanding ℕ ℕ). x.number) e)
     by (inr more) ih = omega (arith, ih more)
 
-same_number : (n : ℕ) (ps : List (Placement ℕ ℕ)) (r s : Outstanding ℕ ℕ) → Contains (numbered n ps) r → Contains (numbered n ps) s
+pub same_number : (n : ℕ) (ps : List (Placement ℕ ℕ)) (r s : Outstanding ℕ ℕ) → Contains (numbered n ps) r → Contains (numbered n ps) s
     → r.number ≡ s.number → r ≡ s
 same_number n [] r s h g e = absurd (none_in r h)
 same_number n (p ∷ ps) r s h g e =
@@ -108,7 +108,7 @@ no_groups exclusions all collected = none all.groups collected.groups
         let missing : lookup (is_at (group_order g.0)) (g ∷ gs) ≡ None = absent g.0 in absurd (let both : Some g.1 ≡ None = sym found ∙ missing in cc)
 
 -- what is written of a box is its record
-is_record : (i : ℕ) (b : RpBox) (p : RpOutstanding) (r : Outstanding ℕ ℕ) → p.number ≡ r.number → r.id ≡ i → p.placement.bin ≡ r.bin
+pub is_record : (i : ℕ) (b : RpBox) (p : RpOutstanding) (r : Outstanding ℕ ℕ) → p.number ≡ r.number → r.id ≡ i → p.placement.bin ≡ r.bin
     → box_at b p.placement ≡ r.location → record_of i b p ≡ r
 is_record i b p r number id bin place =
     ap (λ n. record { number = n; id = i; bin = p.placement.bin; location = box_at b p.placement }) number

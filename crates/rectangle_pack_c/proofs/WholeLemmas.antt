@@ -33,7 +33,7 @@ in_first x xs y e = (0, omega arith, e)
 pub in_later : {X : Type 0} (x : X) (xs : List X) (y : X) → Contains xs y → Contains (x ∷ xs) y
 in_later x xs y h = Contains-append_right (x ∷ []) xs y h
 
-in_map : {X Y : Type 0} (f : X → Y) (xs : List X) (x : X) → Contains xs x → Contains (map f xs) (f x)
+pub in_map : {X Y : Type 0} (f : X → Y) (xs : List X) (x : X) → Contains xs x → Contains (map f xs) (f x)
 in_map f [] x h = absurd (none_in x h)
 in_map f (y ∷ ys) x h = by (in_cases y ys x h) (in_map f ys x)
   where
@@ -41,7 +41,7 @@ in_map f (y ∷ ys) x h = by (in_cases y ys x h) (in_map f ys x)
     by (inl e) ih = in_first (f y) (map f ys) (f x) (ap f e)
     by (inr more) ih = in_later (f y) (map f ys) (f x) (ih more)
 
-from_map : {X Y : Type 0} (f : X → Y) (xs : List X) (y : Y) → Contains (map f xs) y → (x : X) × Contains xs x × (f x ≡ y)
+pub from_map : {X Y : Type 0} (f : X → Y) (xs : List X) (y : Y) → Contains (map f xs) y → (x : X) × Contains xs x × (f x ≡ y)
 from_map f [] y h = absurd (none_in y h)
 from_map {X} f (x ∷ xs) y h = by (in_cases (f x) (map f xs) y h) (from_map f xs y)
   where
