@@ -3,7 +3,7 @@ use Rattle.rectangle_pack_c.proofs.Std.{◌≡◌, ◌≢◌, ℕ, ◌+◌, ◌<
 use Rattle.rectangle_pack_c.proofs.Std.{AllPairs, map, Some, slice_get, enumerate_from, IsStrictlySortedBy, Ordering, Equal, keys_of, nat_cmp, insert_entry}
 use Rattle.rectangle_pack_c.proofs.Std.{nat_tests, take_more, length-map, length-take, length-take-le, length-set, get_or_default, map-append, get_or-set_same, length-append}
 use Rattle.rectangle_pack_c.proofs.Std.{get_or-set_other, slice_get-get_or, slice_get_within, get_or_from_slice_get, exact_unsigned, set}
-use Rattle.rectangle_pack_c.proofs.Std.{Option, None, MatchOption, Vec, append_assoc, take_all}
+use Rattle.rectangle_pack_c.proofs.Std.{Option, None, MatchOption, Vec, append_assoc, take_all, suc, zero}
 use Rattle.rectangle_pack.specs.declared.session.command.Outstanding.{Outstanding}
 use Rattle.rectangle_pack.specs.declared.session.command.Reply.TheVariants.{Done}
 use Rattle.rectangle_pack.specs.declared.grouped_rects_to_place.Group.{Group}
@@ -61,6 +61,19 @@ pub pairs_more : (boxes : List RpBox) (exclusions : List RpExclusion) (i : ℕ) 
 pairs_more boxes exclusions i e old new within is h R same x =
     rw (take_more exclusions i e within, is)
     (excluded_more boxes (take i exclusions) e old new h (subst (λ r. Excludes r old new (Grouped e.one) (Grouped e.other)) same x))
+
+-- an entry that is written, and the others
+pub set_here : {X : Type 0} (xs : List X) (i : ℕ) (x : X) → i < length xs → slice_get (set xs i x) i ≡ Some x
+set_here xs i x within =
+    let long : i < length (set xs i x) = omega (arith, within, length-set xs i x) in
+    slice_get-get_or (set xs i x) i x long ∙ ap (λ y. Some y) (get_or-set_same xs i x x within)
+
+pub set_elsewhere : {X : Type 0} (xs : List X) (i k : ℕ) (x : X) → i ≢ k → slice_get (set xs i x) k ≡ slice_get xs k
+set_elsewhere [] i k x ne = refl
+set_elsewhere (y ∷ xs) zero zero x ne = absurd (ne refl)
+set_elsewhere (y ∷ xs) zero (suc k) x ne = refl
+set_elsewhere (y ∷ xs) (suc i) zero x ne = refl
+set_elsewhere (y ∷ xs) (suc i) (suc k) x ne = set_elsewhere xs i k x (λ e. ne (ap (λ n. suc n) e))
 
 -- one more record
 pub written_more : {X : Type 0} (entry : Outstanding ℕ ℕ → X) (records : List (Outstanding ℕ ℕ)) (placements : List X) (i : ℕ) (r : Outstanding ℕ ℕ)

@@ -1,7 +1,7 @@
 //! The packer for C: one packing of lists of bins and boxes, and sessions with their cutting plans.
 #![tactic(auto)]
 
-ghost use Rattle.std.specs.Prelude.{ℕ, ◌≡◌, ◌<◌, ◌≤◌, ◌==◌, ◌↔◌, ◌≢◌, [], IfOk, IfErr, List, length, All, AllPairs, MatchBool, Err};
+ghost use Rattle.std.specs.Prelude.{ℕ, ◌≡◌, ◌<◌, ◌≤◌, ◌==◌, ◌↔◌, ◌≢◌, [], IfOk, IfErr, List, length, All, AllPairs, MatchBool, Err, slice_get};
 ghost use Rattle.std.specs.Ordering.{nat_cmp};
 ghost use Rattle.rectangle_pack_sections.specs.declared.box_size_heuristics.named.Heuristic.TheVariants.{Volume};
 ghost use Rattle.rectangle_pack.specs.declared.session.command.Packed.{Packed};
@@ -316,14 +316,16 @@ impl Written<Outstanding<u32, u32>> for RpPlacement {
     }
 }
 
-// Writes each outstanding placement at the index of its box.
+// Writes each outstanding placement at the index of its box, and nothing else.
 fn write_all<T: Written<Outstanding<u32, u32>>>(
     outstanding: &[Outstanding<u32, u32>],
     placements: &mut [T],
 )
     requires within { All (λ o. o.id < length placements.old) outstanding.now }
     requires once { AllPairs (λ o p. o.id ≢ p.id) outstanding.now }
-    ensures { AreWritten T.written outstanding.now placements.new }
+    ensures written { AreWritten T.written outstanding.now placements.new }
+    ensures others { (k : ℕ) → All (λ o. o.id ≢ k) outstanding.now →
+        slice_get placements.new k ≡ slice_get placements.old k }
 {
     for placement in outstanding {
         placements[placement.id as usize] = T::of(placement);

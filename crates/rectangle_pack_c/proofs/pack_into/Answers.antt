@@ -52,7 +52,7 @@ returns-clause-written g c =
     let are = records_are boxes pairs all.rects all.ensures.collected c.in_ok-best.best c.args.session.now c.pack_asked.new.session
     c.in_ok-best.ensures.promise in
     rw (new_entries _ _ _ are)
-    (rw (c.outstanding-known.ensures.outstanding, new_part _ _ _ (c.outstanding.ensures.outstanding ∙ are)) at c.write_all.ensures)
+    (rw (c.outstanding-known.ensures.outstanding, new_part _ _ _ (c.outstanding.ensures.outstanding ∙ are)) at c.write_all.ensures.written)
 
 pub returns-in_err-best-clause-memory : goal.returns-in_err-best-clause-memory
 returns-in_err-best-clause-memory g c = λ empty none _.
