@@ -8,6 +8,8 @@ pub mod FaultLemmas
 pub mod PlacedLemmas
 pub mod AnswerLemmas
 pub mod SessionLemmas
+pub mod FittingLemmas
+pub mod FittedLemmas
 pub mod UpkeepLemmas
 pub mod PlacingLemmas
 pub mod JudgingLemmas

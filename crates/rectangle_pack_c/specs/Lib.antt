@@ -5,6 +5,7 @@ pub mod Answers
 pub mod Handle
 pub mod Reading
 pub mod Sessions
+pub mod Fitting
 pub mod Upkeep
 pub mod Placing
 pub mod Judging

@@ -189,7 +189,7 @@ pub(crate) fn pack_asked(
 }
 
 // All heuristics. What names the table itself is proved more slowly.
-fn all() -> [Heuristic; 8]
+pub(crate) fn all() -> [Heuristic; 8]
     ensures { result ≡ all_heuristics }
 {
     Heuristic::ALL

@@ -17,6 +17,7 @@ ghost use Rattle.rectangle_pack_c.specs.private.Written.{AreWritten, NewAreWritt
 
 mod collection;
 mod cutting;
+mod fitting;
 mod handle;
 mod judging;
 mod placing;

@@ -8,6 +8,7 @@ use std::test::Fail;
 
 mod collection;
 mod cutting;
+mod fitting;
 mod judging;
 mod large;
 mod memory;

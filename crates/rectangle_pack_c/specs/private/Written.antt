@@ -1,5 +1,5 @@
 -- What is written of the placements of a packing.
-use Rattle.std.specs.Prelude.{◌≡◌, ℕ, List, All, Some, length, slice_get, drop}
+use Rattle.std.specs.Prelude.{◌≡◌, ◌≢◌, ℕ, ◌<◌, List, All, Some, length, slice_get, drop}
 use Rattle.rectangle_pack.specs.declared.session.command.Outstanding.{Outstanding}
 use Rattle.rectangle_pack.specs.Session.{State}
 use Rattle.rectangle_pack_c.specs.declared.RpPlacement.{RpPlacement}
@@ -21,3 +21,12 @@ AreWritten written outstanding entries = All (λ o. slice_get entries o.id ≡ S
 -- each placement that the new session has beyond those of the old one is written at the index of its box
 abbrev pub NewAreWritten : {X : Type 0} → (Outstanding ℕ ℕ → X) → State ℕ ℕ → State ℕ ℕ → List X → Type 0
 NewAreWritten written old new entries = AreWritten written (drop (length old.outstanding) new.outstanding) entries
+
+-- each outstanding placement is written at the index of its box, and this at each other index
+pub record AreWrittenAmong {X : Type 0} (written : Outstanding ℕ ℕ → X) (left : X) (outstanding : List (Outstanding ℕ ℕ)) (entries : List X) : Type 0 where
+  pub placed : AreWritten written outstanding entries
+  pub others : (k : ℕ) → k < length entries → All (λ o. o.id ≢ k) outstanding → slice_get entries k ≡ Some left
+
+-- so is each placement that the new session has beyond those of the old one
+abbrev pub NewAreWrittenAmong : {X : Type 0} → (Outstanding ℕ ℕ → X) → X → State ℕ ℕ → State ℕ ℕ → List X → Type 0
+NewAreWrittenAmong written left old new entries = AreWrittenAmong written left (drop (length old.outstanding) new.outstanding) entries
