@@ -3,8 +3,8 @@
    bin, and by a heuristic of the caller's choice. A session keeps its bins from call to call: boxes are packed into them and
    released again, and it can be saved. rectangle_pack_check judges a packing, whoever made it, and rectangle_pack_straight_cuts
    finds the cuts that leave its boxes. All calls are proved; what is proved of them stands beside them, and as their contracts
-   in crates/rectangle_pack_c/src (lib.rt, session.rt, placing.rt, upkeep.rt, reading.rt, restoring.rt, judging.rt and
-   cutting.rt). C99 and C++.
+   in crates/rectangle_pack_c/src (lib.rt, fitting.rt, session.rt, placing.rt, upkeep.rt, reading.rt, restoring.rt, judging.rt
+   and cutting.rt). C99 and C++.
 
    Sizes and corners are counted in cells. In two dimensions each depth is 1 and each z is 0. */
 #ifndef RECTANGLE_PACK_H
@@ -188,6 +188,35 @@ enum {
 uint32_t rectangle_pack_collection(const rp_bin *bins, size_t bin_count, const rp_collection *collection, uint32_t heuristic,
                                    rp_placement *placements, size_t placement_count, uint32_t *chosen);
 
+/* What is written of a packing of what fits: the number of the heuristic that packed, and how many boxes and members are left. */
+typedef struct rp_fitted {
+    uint32_t heuristic;
+    size_t left;
+} rp_fitted;
+
+/* In place of a bin and of a number: the box is left. In one call no bin has this index; in a session a bin may have it as its id,
+   but no placement has this number. */
+#define RP_LEFT_BIN UINT32_C(0xffffffff)
+#define RP_LEFT_NUMBER UINT64_C(0xffffffffffffffff)
+
+/* Packs what fits of a collection into the bins, as rectangle_pack_collection packs it all: a group that no bin takes is left, and
+   the next one is tried. Of a box that is left, the placement has the bin RP_LEFT_BIN and the corner (0, 0, 0). With RP_BEST the
+   heuristic is that which leaves the fewest cells, and of several such the one that uses the bins best. RP_DONE or
+   RP_OUT_OF_MEMORY; or, looked at first and in this order, RP_BAD_LENGTHS, RP_UNKNOWN_HEURISTIC, RP_UNKNOWN_BOX or
+   RP_EQUAL_GROUPS.
+
+   Proved, for all lists, wherever memory is refused:
+   - The answer is one of these. Each of the last four comes exactly under its condition, where none before it comes.
+   - RP_DONE: each box, and each member as a box in its group, that is not left stands inside its bin, and the bin is one of the
+     list; no two of them share a cell of one bin; those of one group above 0 are all left, or all in one bin; those of groups that
+     are excluded are in different bins; and the placements are those of the packing rule.
+   - A group is left only where, at its turn, each bin is excluded for it or does not take all of its boxes.
+   - With RP_BEST no other heuristic leaves fewer cells.
+   - Where the answer is not RP_DONE nothing is written.
+   Only tested, and what the caller sees to, is as of rectangle_pack_collection, with fitted for chosen. */
+uint32_t rectangle_pack_fitting(const rp_bin *bins, size_t bin_count, const rp_collection *collection, uint32_t heuristic,
+                                rp_placement *placements, size_t placement_count, rp_fitted *fitted);
+
 /* A session: bins that stay, and boxes that come and go, as in a texture atlas that is filled while a program runs.
 
        rp_session session = RP_NO_SESSION;
@@ -311,6 +340,22 @@ uint32_t rectangle_pack_session_pack(rp_session *session, const rp_box *boxes, s
      rectangle_pack_session_coalesce_all before it. */
 uint32_t rectangle_pack_session_pack_collection(rp_session *session, const rp_collection *collection, uint32_t heuristic,
                                                 rp_outstanding *placements, size_t placement_count, uint32_t *chosen);
+
+/* Packs what fits of a collection into what is free in the bins, as rectangle_pack_fitting does it in bins of one call. Of a box that
+   is left, the placement has the number RP_LEFT_NUMBER, the bin RP_LEFT_BIN and the corner (0, 0, 0). RP_DONE, RP_OUT_OF_MEMORY,
+   after some 2^64 boxes RP_NUMBERS_USED_UP; or, looked at first and in this order, RP_BAD_LENGTHS, RP_UNKNOWN_HEURISTIC,
+   RP_UNKNOWN_BOX or RP_EQUAL_GROUPS.
+
+   Proved:
+   - RP_DONE: each box, and each member as a box in its group with the index box_count + j, is outstanding at its placement, in its
+     size, under a number of its own that was not given before; or it is left, with all of its group. Those of one group above 0
+     are all left, or all in one bin; those of groups that are excluded are in different bins; and what was outstanding before
+     stays where it is.
+   - A group is left only where, at its turn, each bin is excluded for it or does not take all of its boxes.
+   - With RP_BEST no other heuristic leaves fewer cells. What stood in the bins before does not count.
+   - RP_OUT_OF_MEMORY does not come where there are neither boxes nor exclusions, and RP_NOT_ENOUGH_SPACE never does. */
+uint32_t rectangle_pack_session_pack_fitting(rp_session *session, const rp_collection *collection, uint32_t heuristic,
+                                             rp_outstanding *placements, size_t placement_count, rp_fitted *fitted);
 
 /* Releases a placement by its number, which is not outstanding any more. Its cells are free again, as the newest free section
    of its bin, the last of the list; a box without cells leaves none. RP_DONE, RP_UNKNOWN_PLACEMENT or RP_OUT_OF_MEMORY. */

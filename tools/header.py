@@ -82,7 +82,7 @@ def structs_of(text: str) -> dict[str, list[Part]]:
 
 
 def numbers_of(text: str) -> dict[str, int]:
-    return {name: int(value, 0) for name, value in re.findall(r"pub const (RP_\w+): u32 = (\w+);", text)}
+    return {name: int(value, 0) for name, value in re.findall(r"pub const (RP_\w+): u(?:32|64) = (\w+);", text)}
 
 
 def names_of(parts: str) -> list[str]:
@@ -111,7 +111,7 @@ def compare_names(header: str, calls: list[Call], structs: dict[str, list[Part]]
         raise Mismatch(f"the header has the structs {sorted(fields)}, the crate {sorted(structs)}")
     for name, parts in structs.items():
         compare(name, parts, fields[name])
-    given = {name: int(value, 0) for name, value in re.findall(r"(RP_\w+) = (\w+)", header)}
+    given = {name: int(value, 0) for name, value in re.findall(r"(RP_\w+)(?: = | UINT(?:32|64)_C\()(\w+)", header)}
     if given != numbers:
         raise Mismatch(f"numbers that differ: {sorted(set(given.items()) ^ set(numbers.items()))}")
     return fields
