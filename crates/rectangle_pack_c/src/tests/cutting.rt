@@ -20,6 +20,7 @@ const NOT_WRONG: [usize; 4] = [9; 4];
 
 // What is answered: the status, how many steps there are, the first three of them, and what is
 // wrong.
+#[derive(Drop)]
 struct Answer {
     status: u32,
     count: usize,
