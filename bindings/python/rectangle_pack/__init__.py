@@ -28,10 +28,10 @@ from ._errors import (
 from ._faults import Fault, FaultKind
 from ._pack import pack
 from ._session import Session
-from ._types import AnyHeuristic, Bin, Box, Heuristic, Outstanding, Packing, Placement, Section, Stats, Turn
+from ._types import AnyHeuristic, Bin, Box, Heuristic, Left, Outstanding, Packing, Placement, Section, Stats, Turn
 
 __all__ = [
-    "Bin", "Box", "pack", "Packing", "Placement", "Heuristic", "AnyHeuristic",
+    "Bin", "Box", "pack", "Packing", "Left", "Placement", "Heuristic", "AnyHeuristic",
     "check", "Fault", "FaultKind", "Turn",
     "straight_cuts", "WrongBoxes",
     "Session", "Outstanding", "Stats", "Section", "Axis", "Cut", "Leaf", "CutStep", "CutNode", "CutTree",

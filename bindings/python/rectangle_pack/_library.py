@@ -48,6 +48,10 @@ class RpPlacement(ctypes.Structure):
     _fields_ = _uint32("bin", "x", "y", "z")
 
 
+class RpFitted(ctypes.Structure):
+    _fields_ = [*_uint32("heuristic"), ("left", ctypes.c_size_t)]
+
+
 class RpSession(ctypes.Structure):
     _fields_ = [("at", ctypes.c_void_p)]
 
@@ -129,10 +133,9 @@ def _array_of(kind: type[ctypes.Structure]) -> list[type[object]]:
     return [ctypes.POINTER(kind), ctypes.c_size_t, ctypes.POINTER(ctypes.c_size_t)]
 
 
-def _places_of(kind: type[ctypes.Structure]) -> list[type[object]]:
-    """What a call that packs is given: a collection, a heuristic, an array, its length, and where the chosen heuristic goes."""
-    chosen = ctypes.POINTER(ctypes.c_uint32)
-    return [ctypes.POINTER(RpCollection), ctypes.c_uint32, ctypes.POINTER(kind), ctypes.c_size_t, chosen]
+def _places_of(kind: type[ctypes.Structure], told: type[Any] = ctypes.c_uint32) -> list[type[object]]:
+    """What a call that packs is given: a collection, a heuristic, an array, its length, and where it tells what was chosen."""
+    return [ctypes.POINTER(RpCollection), ctypes.c_uint32, ctypes.POINTER(kind), ctypes.c_size_t, ctypes.POINTER(told)]
 
 
 def _list_of(kind: type[ctypes.Structure]) -> list[type[object]]:
@@ -147,6 +150,7 @@ _BEST_PLACE = [ctypes.POINTER(RpBox), ctypes.c_uint32, ctypes.POINTER(RpOutstand
 
 _ARGUMENTS = {
     "collection": [*_list_of(RpBin), *_places_of(RpPlacement)],
+    "fitting": [*_list_of(RpBin), *_places_of(RpPlacement, RpFitted)],
     "check": [*_list_of(RpBin), *_list_of(RpEntry), *_list_of(RpExclusion), *_list_of(RpClaim), ctypes.POINTER(RpFault)],
     "straight_cuts": [ctypes.POINTER(RpBin), *_list_of(RpSection), *_array_of(RpCutStep), ctypes.POINTER(RpWrong)],
     "session_new": [_SESSION],
@@ -154,6 +158,7 @@ _ARGUMENTS = {
     "session_free": [_SESSION],
     "session_add_bin": [_SESSION] + [ctypes.c_uint32] * 4,
     "session_pack_collection": [_SESSION, *_places_of(RpOutstanding)],
+    "session_pack_fitting": [_SESSION, *_places_of(RpOutstanding, RpFitted)],
     "session_release": [_SESSION, ctypes.c_uint64],
     "session_release_all": [_SESSION, ctypes.POINTER(ctypes.c_uint64), ctypes.c_size_t],
     "session_coalesce_all": [_SESSION, ctypes.c_uint32],

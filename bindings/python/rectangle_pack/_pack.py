@@ -1,19 +1,20 @@
 """The call that packs and keeps nothing."""
 from __future__ import annotations
 
-import ctypes
 from collections.abc import Mapping, Sequence
 from typing import Any, overload
 
 from . import _library
-from ._collection import HEURISTICS, Collection, heuristic_number, names_and_sizes
-from ._types import AnyHeuristic, Bin, BinName, Box, BoxName, Groups, Packing, Pairs, Placement
+from ._collection import Collection, heuristic_number, names_and_sizes
+from ._fitting import LEFT_BIN, Rows, packed, parted
+from ._types import AnyHeuristic, Bin, BinName, Box, BoxName, Groups, Left, Packing, Pairs, Placement
 
 
 @overload
 def pack(
     bins: Mapping[BinName, Bin], boxes: Mapping[BoxName, Box], *,
     groups: Groups[BoxName] | None = ..., exclude: Pairs = ..., heuristic: AnyHeuristic = ...,
+    partial: bool = ...,
 ) -> Packing[BoxName, Placement[BoxName, BinName]]: ...
 
 
@@ -21,6 +22,7 @@ def pack(
 def pack(
     bins: Sequence[Bin], boxes: Mapping[BoxName, Box], *,
     groups: Groups[BoxName] | None = ..., exclude: Pairs = ..., heuristic: AnyHeuristic = ...,
+    partial: bool = ...,
 ) -> Packing[BoxName, Placement[BoxName, int]]: ...
 
 
@@ -28,6 +30,7 @@ def pack(
 def pack(
     bins: Mapping[BinName, Bin], boxes: Sequence[Box], *,
     groups: Groups[int] | None = ..., exclude: Pairs = ..., heuristic: AnyHeuristic = ...,
+    partial: bool = ...,
 ) -> Packing[int, Placement[int, BinName]]: ...
 
 
@@ -35,12 +38,14 @@ def pack(
 def pack(
     bins: Sequence[Bin], boxes: Sequence[Box], *,
     groups: Groups[int] | None = ..., exclude: Pairs = ..., heuristic: AnyHeuristic = ...,
+    partial: bool = ...,
 ) -> Packing[int, Placement[int, int]]: ...
 
 
 def pack(
     bins: Mapping[Any, Bin] | Sequence[Bin], boxes: Mapping[Any, Box] | Sequence[Box], *,
     groups: Groups[Any] | None = None, exclude: Pairs = (), heuristic: AnyHeuristic = "volume",
+    partial: bool = False,
 ) -> Packing[Any, Placement[Any, Any]]:
     """Packs all boxes into the bins. Names are any values that a dict takes as keys; those of a list are its indices. Equal
     bins, boxes, groups and pairs are packed alike, on every machine.
@@ -67,18 +72,29 @@ def pack(
     >>> packing.heuristic
     'height'
 
-    Raises NotEnoughBinSpace, OutOfMemory or TooMany; before anything is packed UnknownHeuristic, UnknownBox, UnknownGroup or
-    EqualGroups, which are ValueErrors; ValueError or TypeError where a size is not a number of 32 bits; and TypeError where a
-    text stands in place of a list of names."""
+    With partial each group that some bin takes is packed, and the others are left. A group that is left excludes nothing.
+
+    >>> packing = pack({"page": Bin(4, 4)}, {"hat": Box(4, 3), "cap": Box(4, 2), "pin": Box(1, 1)}, partial=True)
+    >>> [it.name for it in packing], packing.left
+    (['hat', 'pin'], (Left(name='cap', group=None),))
+
+    Each group is tried once, in falling order of the sums of its boxes' rates. With "best" that heuristic is taken that leaves
+    the fewest cells, and of several such the one that needs the fewest bins. packing[name] raises KeyError of a box that is
+    left.
+
+    Raises NotEnoughBinSpace, which never comes with partial, OutOfMemory or TooMany; before anything is packed
+    UnknownHeuristic, UnknownBox, UnknownGroup or EqualGroups, which are ValueErrors; ValueError or TypeError where a size is
+    not a number of 32 bits; and TypeError where a text stands in place of a list of names."""
     asked = heuristic_number(heuristic)
     names, sizes = names_and_sizes(bins)
     collection: Collection[Any] = Collection(boxes, groups or {}, exclude)
     entries = collection.entries()
     room, first = _library.room_of(_library.RpPlacement, len(entries))
-    chosen, bin_list = ctypes.c_uint32(), _library.listed(_library.RpBin, sizes)
-    _library.check(_library.call(
-        "collection", bin_list, len(sizes), collection.as_c(), asked, first, len(entries), chosen))
-    placements = (
-        Placement(name, group, names[bin], x, y, z, *size)
-        for (name, group, size), (bin, x, y, z) in zip(entries, _library.row_of(_library.RpPlacement).iter_unpack(room)))
-    return Packing(HEURISTICS[chosen.value], tuple(placements))
+    bin_list = _library.listed(_library.RpBin, sizes)
+    chosen = packed("", partial, bin_list, len(sizes), collection.as_c(), asked, first, len(entries))
+    rows: Rows = zip(entries, _library.row_of(_library.RpPlacement).iter_unpack(room))
+    left: tuple[Left, ...] = ()
+    if partial:
+        rows, left = parted(rows, LEFT_BIN)
+    placements = tuple(Placement(name, group, names[bin], x, y, z, *size) for (name, group, size), (bin, x, y, z) in rows)
+    return Packing(chosen, placements, left)

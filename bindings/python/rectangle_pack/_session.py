@@ -1,7 +1,6 @@
 """Sessions."""
 from __future__ import annotations
 
-import ctypes
 import os
 from collections.abc import Mapping, Sequence
 from pathlib import Path
@@ -9,13 +8,14 @@ from types import TracebackType
 from typing import Any, overload
 
 from . import _library
-from ._collection import HEURISTICS, Collection, bin_of, box_of, heuristic_number, items_of
+from ._collection import Collection, bin_of, box_of, heuristic_number, items_of
 from ._errors import NotASession
 from ._files import write_whole
+from ._fitting import LEFT_NUMBER, Rows, packed, parted
 from ._handle import alone
 from ._placing import OUTSTANDING, Placing
 from ._saving import Saved, SavedBin, SavedPlacement, as_c, saved_of, what_is_wrong
-from ._types import AnyHeuristic, Bin, BinName, Box, BoxName, Groups, Outstanding, Packing, Pairs, Section
+from ._types import AnyHeuristic, Bin, BinName, Box, BoxName, Groups, Left, Outstanding, Packing, Pairs, Section
 
 
 def _the_one(boxes: Mapping[Any, Box] | Sequence[Box]) -> tuple[Any, Box] | None:
@@ -124,17 +124,20 @@ class Session(Placing[BinName]):
     def pack(
         self, boxes: Mapping[BoxName, Box], *,
         groups: Groups[BoxName] | None = ..., exclude: Pairs = ..., heuristic: AnyHeuristic = ...,
+        partial: bool = ...,
     ) -> Packing[BoxName, Outstanding[BoxName, BinName]]: ...
 
     @overload
     def pack(
         self, boxes: Sequence[Box], *,
         groups: Groups[int] | None = ..., exclude: Pairs = ..., heuristic: AnyHeuristic = ...,
+        partial: bool = ...,
     ) -> Packing[int, Outstanding[int, BinName]]: ...
 
     def pack(
         self, boxes: Mapping[Any, Box] | Sequence[Box], *,
         groups: Groups[Any] | None = None, exclude: Pairs = (), heuristic: AnyHeuristic = "volume",
+        partial: bool = False,
     ) -> Packing[Any, Outstanding[Any, BinName]]:
         """Packs all boxes into what is free in the bins, as the function pack does. What stood there before excludes nothing,
         and "best" does not count it.
@@ -144,19 +147,34 @@ class Session(Placing[BinName]):
         it, by rising rate, at ties in the order in which the bins were added. In a group boxes go in their order, and last
         those for which it is a further group.
 
-        Raises NotEnoughBinSpace, OutOfMemory, TooMany or NumbersUsedUp; and before anything is packed UnknownHeuristic,
-        UnknownBox, UnknownGroup or EqualGroups, which are ValueErrors."""
-        asked = heuristic_number(heuristic)
-        one = None if groups or exclude else _the_one(boxes)
-        return self._pack_all(Collection(boxes, groups or {}, exclude), asked) if one is None else self._pack_one(*one, asked)
+        With partial what fits is packed, and boxes that are left have no number:
 
-    def _pack_all(self, collection: Collection[Any], asked: int) -> Packing[Any, Outstanding[Any, BinName]]:
-        entries, chosen = collection.entries(), ctypes.c_uint32()
+        >>> with Session({"sheet": Bin(10, 10)}) as session:
+        ...     packing = session.pack({"door": Box(8, 9), "shelf": Box(8, 3), "strip": Box(1, 9)}, partial=True)
+        ...     session.release(packing["door"].number)
+        ...     [it.name for it in session.outstanding()], packing.left
+        (['strip'], (Left(name='shelf', group=None),))
+
+        Raises NotEnoughBinSpace, which never comes with partial, OutOfMemory, TooMany or NumbersUsedUp; and before anything is
+        packed UnknownHeuristic, UnknownBox, UnknownGroup or EqualGroups, which are ValueErrors."""
+        asked = heuristic_number(heuristic)
+        one = None if groups or exclude or partial else _the_one(boxes)
+        if one is not None:
+            return self._pack_one(*one, asked)
+        return self._pack_all(Collection(boxes, groups or {}, exclude), asked, partial)
+
+    def _pack_all(self, collection: Collection[Any], asked: int, partial: bool) -> Packing[Any, Outstanding[Any, BinName]]:
+        entries = collection.entries()
         room, first = _library.room_of(_library.RpOutstanding, len(entries))
         told, placed = collection.as_c(), []
+        left: tuple[Left, ...] = ()
         with self._lock:
-            self._call("pack_collection", told, asked, first, len(entries), chosen)
-            for (name, group, size), (number, id, x, y, z) in zip(entries, OUTSTANDING.iter_unpack(room)):
+            self._check_open()
+            chosen = packed("session_pack_", partial, self._handle, told, asked, first, len(entries))
+            rows: Rows = zip(entries, OUTSTANDING.iter_unpack(room))
+            if partial:
+                rows, left = parted(rows, LEFT_NUMBER)
+            for (name, group, size), (number, id, x, y, z) in rows:
                 self._boxes[number] = (name, group, id)
                 placed.append(Outstanding(name, group, self._names[id], x, y, z, *size, number))
-        return Packing(HEURISTICS[chosen.value], tuple(placed))
+        return Packing(chosen, tuple(placed), left)

@@ -104,6 +104,12 @@ class Outstanding(Placement[BoxName, BinName]):
         fields["width"], fields["height"], fields["depth"] = width, height, depth
 
 
+class Left(NamedTuple):
+    """A box that no bin took with its group: its name, and the group for which it is left, or None where it is alone."""
+    name: Any
+    group: Hashable
+
+
 Placed = TypeVar("Placed", bound=Placement[Any, Any])
 
 
@@ -113,13 +119,17 @@ class Packing(Generic[BoxName, Placed]):
     order in which the boxes were given. Then there is one for each further group that a box is in, in the order in which these
     were given. A loop over the packing goes over its placements.
 
+    left has the boxes that did not fit, in the same order: a box that is left has no placement. It is empty where partial was
+    not asked for, and where all fit.
+
     packing[name] is the placement of the box of this name."""
     heuristic: Heuristic
     placements: tuple[Placed, ...]
+    left: tuple[Left, ...] = ()
 
-    def __init__(self, heuristic: Heuristic, placements: tuple[Placed, ...]) -> None:
+    def __init__(self, heuristic: Heuristic, placements: tuple[Placed, ...], left: tuple[Left, ...] = ()) -> None:
         fields = self.__dict__
-        fields["heuristic"], fields["placements"] = heuristic, placements
+        fields["heuristic"], fields["placements"], fields["left"] = heuristic, placements, left
 
     def __iter__(self) -> Iterator[Placed]:
         return iter(self.placements)
@@ -128,7 +138,7 @@ class Packing(Generic[BoxName, Placed]):
         return len(self.placements)
 
     def __getitem__(self, name: BoxName) -> Placed:
-        """Raises KeyError where there is no such box, and LookupError where it has several placements."""
+        """Raises KeyError where there is no such box or it is left, and LookupError where it has several placements."""
         # For one box it takes no index.
         if len(self.placements) == 1 and self.placements[0].name == name:
             return self.placements[0]
