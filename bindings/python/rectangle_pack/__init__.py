@@ -5,6 +5,8 @@
     >>> packing["cap"]
     Placement(name='cap', group='hats', bin='page', x=0, y=20, z=0, width=5, height=5, depth=1)
 
+Where not all boxes fit, pack raises NotEnoughBinSpace. With partial=True it packs what fits, and packing.left has the rest.
+
 A Session keeps its bins from packing to packing, and releases boxes again. It lists and joins what is free, plans the cuts that
 part a bin, takes boxes at places of your choice, and has bins cleared, made larger and removed. It is saved to a file by save, and
 Session.load makes it again.

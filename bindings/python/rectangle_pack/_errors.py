@@ -16,7 +16,8 @@ class PackError(Exception):
 
 class NotEnoughBinSpace(PackError):
     """For some group each bin is excluded or does not take all of its boxes, as the groups before it left the bins. With the
-    heuristic "best" this is so with each heuristic. Or no free section holds a box of place_best."""
+    heuristic "best" this is so with each heuristic. With partial such a group is left instead. Or no free section holds a box
+    of place_best."""
 
     text = "Not enough space to place all of the rectangles"
 

@@ -3,6 +3,7 @@
 A section is (x, y, z, width, height, depth), a size (width, height, depth). A group is None for a box that is alone, or a
 number."""
 from itertools import product
+from math import prod
 
 
 def by_three(first, second, third):
@@ -95,9 +96,9 @@ class Bins:
         self.sizes = list(sizes)
         self.free = [[(0, 0, 0, *size)] for size in self.sizes]
 
-    def pack(self, entries, excluded=(), heuristic="volume"):
+    def pack(self, entries, excluded=(), heuristic="volume", partial=False):
         """Packs entries, each a size and a group: for each the bin and the corner, in the order of packing by index; or None,
-        and then all is as before."""
+        and then all is as before. In part, a group that no bin takes is left, and its entries have no place in the answer."""
         rate, free, placed, homes = RATES[heuristic], list(self.free), {}, {}
         order = sorted(range(len(free)), key=lambda bin: (rate(*self.sizes[bin]), bin))
         for (kind, group), indices in groups_of(entries, rate):
@@ -106,6 +107,8 @@ class Bins:
             done = ((bin, place_all(free[bin], sizes, rate)) for bin in order if bin not in foes)
             bin, trial = next((it for it in done if it[1] is not None), (None, None))
             if trial is None:
+                if partial:
+                    continue
                 return None
             corners, free[bin] = trial
             placed |= {index: (bin, *corner) for index, corner in zip(indices, corners)}
@@ -114,19 +117,19 @@ class Bins:
         self.free = free
         return placed
 
-    def best(self, entries, excluded=()):
-        """Packs by each heuristic, and then by the first of those that use the bins best: which one, and what it places; or
-        None."""
+    def best(self, entries, excluded=(), partial=False):
+        """Packs by each heuristic, and then by the first of those that leave the fewest cells and then use the bins best: which
+        one, and what it places; or None."""
         before, uses = self.free, {}
         for heuristic in RATES:
-            placed = self.pack(entries, excluded, heuristic)
+            placed = self.pack(entries, excluded, heuristic, partial)
             self.free = before
             if placed is not None:
-                uses[heuristic] = self.use_of(entries, placed)
+                uses[heuristic] = cells_left(entries, placed), *self.use_of(entries, placed)
         if not uses:
             return None
         heuristic = min(uses, key=uses.get)
-        return heuristic, self.pack(entries, excluded, heuristic)
+        return heuristic, self.pack(entries, excluded, heuristic, partial)
 
     def use_of(self, entries, placed):
         """In how many bins cells are placed, and how many in the last of these."""
@@ -136,6 +139,11 @@ class Bins:
             cells[bin] += width * height * depth
         used = [count for count in cells if count]
         return len(used), used[-1] if used else 0
+
+
+def cells_left(entries, placed):
+    """How many cells the entries have that are not placed."""
+    return sum(prod(size) for index, (size, _) in enumerate(entries) if index not in placed)
 
 
 def cells_of(section):

@@ -58,19 +58,28 @@ class Case:
         self.entries = [(self.boxes[name][:3], numbers.get(group)) for name, group in self.labels]
         self.excluded = [(numbers[one], numbers[other]) for one, other in self.exclude]
 
-    def by_module(self, call, heuristic):
+    def by_module(self, call, heuristic, **more):
         """The heuristic and the placements, or None."""
         try:
-            return call(self.boxes, groups=self.groups, exclude=self.exclude, heuristic=heuristic)
+            return call(self.boxes, groups=self.groups, exclude=self.exclude, heuristic=heuristic, **more)
         except NotEnoughBinSpace:
             return None
 
-    def by_model(self, bins, heuristic):
+    def by_model(self, bins, heuristic, partial=False):
         """The heuristic, and where the entries stand in the order of packing, or None."""
         if heuristic == BEST:
-            return bins.best(self.entries, self.excluded)
-        placed = bins.pack(self.entries, self.excluded, heuristic)
+            return bins.best(self.entries, self.excluded, partial)
+        placed = bins.pack(self.entries, self.excluded, heuristic, partial)
         return None if placed is None else (heuristic, placed)
+
+
+def release_some(r, session, bins):
+    """Releases some boxes of a session, and of the model."""
+    standing = session.outstanding()
+    for it in r.sample(standing, r.randint(0, len(standing))):
+        session.release(it.number)
+        if 0 not in it.section[3:]:
+            bins.free[it.bin] = [*bins.free[it.bin], tuple(it.section)]
 
 
 class Heuristics(unittest.TestCase):
@@ -116,16 +125,9 @@ class Heuristics(unittest.TestCase):
                         numbers = {index: number for number, index in enumerate(expected[1], next_number)}
                         self.assertEqual([it.number for it in packing], [numbers[index] for index in range(len(packing))])
                     done[packing is not None] += 1
-                    self.release_some(r, session, bins)
+                    release_some(r, session, bins)
+                    self.assertEqual([session.free_sections(bin) for bin in session.bins()], bins.free)
         self.assertGreater(min(done[True], done[False]), 50)
-
-    def release_some(self, r, session, bins):
-        standing = session.outstanding()
-        for it in r.sample(standing, r.randint(0, len(standing))):
-            session.release(it.number)
-            if 0 not in it.section[3:]:
-                bins.free[it.bin] = [*bins.free[it.bin], tuple(it.section)]
-        self.assertEqual([session.free_sections(bin) for bin in session.bins()], bins.free)
 
 
 class Best(unittest.TestCase):

@@ -2,8 +2,8 @@
 from __future__ import annotations
 
 from rectangle_pack import (
-    AnyHeuristic, Bin, Box, CutNode, CutStep, Fault, FaultKind, Heuristic, Outstanding, Packing, Placement, Section, Session,
-    Turn, WrongBoxes, check, pack, straight_cuts,
+    AnyHeuristic, Bin, Box, CutNode, CutStep, Fault, FaultKind, Heuristic, Left, Outstanding, Packing, Placement, Section,
+    Session, Turn, WrongBoxes, check, pack, straight_cuts,
 )
 
 sheets = {"small": Bin(64, 64), "large": Bin(128, 128)}
@@ -20,11 +20,21 @@ index: int = pack([Bin(1, 1)], sprites, heuristic="best")["hat", 1].bin
 first: Placement[int, str] = pack(sheets, [Box(1, 1)], groups={"hats": [0]})[0]
 listed = pack(sheets, sprites, groups=[[("tree", 1), ("hat", 1)]])["hat", 1]
 both: Placement[int, int] = pack([Bin(1, 1)], [Box(1, 1)], heuristic=asked)[0]
+fits: Packing[tuple[str, int], Placement[tuple[str, int], str]] = pack(sheets, sprites, groups=groups, partial=True)
+left: tuple[Left, ...] = fits.left
+left_names: list[str] = [f"{it.name} of {it.group}" for it in pack([Bin(1, 1)], sprites, partial=bool(left)).left]
+fitting: list[int] = [it.bin for it in pack([Bin(1, 1)], [Box(1, 1)], partial=True)]
+fits_in: list[str] = [it.bin for it in pack(sheets, [Box(1, 1)], partial=True)]
 
 pack(sheets, sprites, heuristic="weight")  # type: ignore
 pack(sheets, sprites, groups={"hats": 3})  # type: ignore
 pack(sheets, sprites, exclude=["hats", 3])  # type: ignore
 pack({"small": 64}, sprites)  # type: ignore
+pack(sheets, sprites, partial="yes")  # type: ignore
+pack(sheets, sprites, True)  # type: ignore
+fits.left = ()  # type: ignore
+left[0].box  # type: ignore
+left[0].group = None  # type: ignore
 packing["hat"]  # type: ignore
 packing.heuristic = "height"  # type: ignore
 packing["hat", 1].x = 3  # type: ignore
@@ -63,6 +73,9 @@ straight_cuts(sheets["small"])  # type: ignore
 with Session(sheets) as session:
     standing: Outstanding[tuple[str, int], str] = session.pack(sprites, heuristic="best")["hat", 1]
     number: int = session.pack([Box(1, 1)])[0].number
+    fitted: Packing[tuple[str, int], Outstanding[tuple[str, int], str]] = session.pack(sprites, partial=True)
+    numbers: list[int] = [it.number for it in session.pack([Box(1, 1)], partial=True)]
+    session.pack({name: sprites[name] for name, _ in fitted.left})
     session.release(standing.number)
     names: list[str] = session.bins()
     standing_in: list[tuple[str, Section]] = [(it.bin, it.section) for it in session.outstanding()]
@@ -82,6 +95,8 @@ with Session(sheets) as session:
     session.stats(7)  # type: ignore
     session.add_bin(7, 1, 1)  # type: ignore
     session.pack(sprites, heuristic="weight")  # type: ignore
+    session.pack(sprites, partial=1.5)  # type: ignore
+    fitted.left[0].number  # type: ignore
     session.release("hat")  # type: ignore
     session.grow_bin("small", "width", 3)  # type: ignore
     session.grow_bin("small", "x", "3")  # type: ignore
