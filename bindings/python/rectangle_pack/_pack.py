@@ -78,8 +78,8 @@ def pack(
     >>> [it.name for it in packing], packing.left
     (['hat', 'pin'], (Left(name='cap', group=None),))
 
-    Each group is tried once, in falling order of the sums of its boxes' rates. With "best" that heuristic is taken that leaves
-    the fewest cells, and of several such the one that needs the fewest bins. packing[name] raises KeyError of a box that is
+    Each group is tried once, in falling order of the sum of its boxes' rates. With "best" that heuristic is taken that leaves
+    the fewest cells, and of several such the one that needs the fewest bins. packing[name] raises KeyError for a box that is
     left.
 
     Raises NotEnoughBinSpace, which never comes with partial, OutOfMemory or TooMany; before anything is packed

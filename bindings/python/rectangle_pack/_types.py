@@ -119,8 +119,8 @@ class Packing(Generic[BoxName, Placed]):
     order in which the boxes were given. Then there is one for each further group that a box is in, in the order in which these
     were given. A loop over the packing goes over its placements.
 
-    left has the boxes that did not fit, in the same order: a box that is left has no placement. It is empty where partial was
-    not asked for, and where all fit.
+    left has the boxes that did not fit, in the same order. It is empty where partial was not asked for, and where all fit. A box
+    that is left has no placement for that group; a box of several groups may be left for one and placed for another.
 
     packing[name] is the placement of the box of this name."""
     heuristic: Heuristic
