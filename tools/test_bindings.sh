@@ -40,7 +40,7 @@ if have cc C; then
         cc -std=c99 "${flags[@]}" "bindings/c/examples/$it.c" "$link" -o "$work/${it}_c"
         "$work/${it}_c" >"$work/$it.txt"
     done
-    for it in harness session_harness; do
+    for it in harness session_harness fitting_harness; do
         run_harness "$it"
         run_harness "$it" -fsanitize=address,undefined -fno-sanitize-recover=all
     done

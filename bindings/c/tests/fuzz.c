@@ -16,7 +16,7 @@
 enum { SESSIONS = 3, STEPS_OF_INPUT = 60 };
 
 /* What is done in a step: a command of a session, or one of these. */
-enum step { PLAN = KINDS, PACK_ONCE, FREE, AGAIN, RESTORE, CUT };
+enum step { PLAN = KINDS, PACK_ONCE, FREE, AGAIN, RESTORE, CUT, FIT_ONCE };
 
 /* A session, and what is known of it. Where it is not open, its handle is as RP_NO_SESSION makes it. */
 typedef struct known_session {
@@ -79,20 +79,20 @@ static void ask_plan(known_session *it)
     read_plan(&it->handle, &it->now, bin, &it->now.free[bin]);
 }
 
-static void pack_once(long first, long last, uint32_t depth)
+static void pack_once(long first, long last, uint32_t depth, int what_fits)
 {
     static input drawn;
     static reply right, said;
     uint32_t box_depth = depth < LONGEST ? depth : LONGEST;
     memset(&drawn, 0, sizeof drawn);
-    drawn.is_collection = (int)within(0, 1);
+    drawn.way = what_fits ? WHAT_FITS : within(0, 1) ? ALL_OF_IT : BOXES_ALONE;
     drawn.bin_count = within(0, BINS);
     for (size_t i = 0; i < drawn.bin_count; i++) {
         drawn.bins[i].width = within(0, SIDE);
         drawn.bins[i].height = within(1, SIDE);
         drawn.bins[i].depth = within(1, depth);
     }
-    if (drawn.is_collection)
+    if (drawn.way != BOXES_ALONE)
         draw_collection(&drawn.asked, BOXES, MEMBERS, box_depth);
     else
         draw_boxes(&drawn.asked, BOXES, box_depth);
@@ -106,13 +106,13 @@ static void take_step(uint32_t depth)
 {
     static const int steps[] = {ADD_BIN, PACK, PACK_COLLECTION, RELEASE, COALESCE, COALESCE_ALL, PLAN, PACK_ONCE, FREE,
                                 CLEAR_BIN, REMOVE_BIN, GROW_BIN, PLACE_AT, PLACE_BEST, PLACE_ANYWHERE, RELEASE_ALL, RECUT,
-                                AGAIN, RESTORE, CUT};
+                                AGAIN, RESTORE, CUT, PACK_FITTING, FIT_ONCE};
     int what = steps[within(0, sizeof steps / sizeof *steps - 1)];
     known_session *it = &known[within(0, SESSIONS - 1)];
     long first, last;
     draw_refusals(&first, &last);
-    if (what == PACK_ONCE) {
-        pack_once(first, last, depth);
+    if (what == PACK_ONCE || what == FIT_ONCE) {
+        pack_once(first, last, depth, what == FIT_ONCE);
         return;
     }
     refuse_requests(first, last);

@@ -2,11 +2,10 @@
    all after it, and looks at what they promise: each box in its bin in its size, no two in one cell, groups together, excluded
    groups apart, the placements of the packing rule, nothing written unless all was placed, all memory given back, and equal
    answers to equal lists. Link it with -Wl,--wrap=malloc,--wrap=realloc,--wrap=free. */
-#include <limits.h>
 #include <stdio.h>
 #include <string.h>
 
-#include "one_shot.h"
+#include "one_shot_refusals.h"
 #include "packing_draws.h"
 #include "rectangle_pack.h"
 #include "refusing.h"
@@ -17,20 +16,6 @@ enum { BOX_RUNS = 60, COLLECTION_RUNS = 500, STATUSES = 13 };
    best, and how often memory was refused. */
 static long seen[STATUSES], done_by[HEURISTICS], best_by[HEURISTICS], wants;
 
-/* Each request is refused in turn. With all after it refused too, want of memory is answered. Alone it may have been for room
-   that was not needed, and then the answer is the one with all memory. */
-static void refuse_each(const input *it, const reply *right)
-{
-    static reply again;
-    long all = requests;
-    for (long request = 0; request < all; request++) {
-        check(call_once(it, request, LONG_MAX, &again) == RP_OUT_OF_MEMORY, "want of memory is not answered");
-        uint32_t alone = call_once(it, request, request, &again);
-        check(alone == RP_OUT_OF_MEMORY || are_same_replies(right, &again), "a refused request changes the answer");
-    }
-    wants += all;
-}
-
 /* One call, and the same call with refusals. The status. */
 static uint32_t attempt(const input *it)
 {
@@ -40,7 +25,7 @@ static uint32_t attempt(const input *it)
         call_once(it, NONE, NONE, &said);
         check_reply(it, &right, &said);
     }
-    refuse_each(it, &right);
+    wants += refuse_each(it, &right);
     seen[right.status]++;
     if (right.status == RP_DONE)
         (it->asked.heuristic == RP_BEST ? best_by : done_by)[right.chosen]++;
@@ -59,7 +44,7 @@ static void draw_input(input *it, int is_collection)
 {
     uint32_t depth = is_collection && within(0, 1) ? 1 : SIDE, box_depth = depth < LONGEST ? depth : LONGEST;
     memset(it, 0, sizeof *it);
-    it->is_collection = is_collection;
+    it->way = is_collection ? ALL_OF_IT : BOXES_ALONE;
     draw_bins(it, is_collection ? 1 : BINS, depth);
     if (is_collection)
         draw_collection(&it->asked, BOXES / 2, MEMBERS, box_depth);
@@ -70,7 +55,7 @@ static void draw_input(input *it, int is_collection)
 /* Boxes in several groups and excluded groups; there are different numbers of bins, boxes, members and exclusions. The places
    are those that packrun prints. */
 static const input several = {
-    1,
+    ALL_OF_IT,
     {{10, 10, 1}, {9, 9, 1}, {12, 9, 1}},
     3,
     {{{4, 4, 1, 1}, {4, 3, 1, 2}, {2, 3, 1, 1}, {1, 1, 1, 0}, {5, 2, 1, 4}},
@@ -98,21 +83,21 @@ static void check_several(void)
 static void check_best(void)
 {
     reply said;
-    input it = {1, {{4, 4, 1}}, 1, {{{1, 3, 1, 0}, {3, 2, 1, 0}, {3, 1, 1, 0}}, {{0, 0}}, {{0, 0}}, 3, 0, 0, 3, RP_BEST}};
+    input it = {ALL_OF_IT, {{4, 4, 1}}, 1, {{{1, 3, 1, 0}, {3, 2, 1, 0}, {3, 1, 1, 0}}, {{0, 0}}, {{0, 0}}, 3, 0, 0, 3, RP_BEST}};
     check(call_once(&it, NONE, NONE, &said) == RP_DONE && said.chosen == RP_HEIGHT, "the best heuristic is another one");
     check(attempt(&it) == RP_DONE, "the best heuristic finds no space");
     for (it.asked.heuristic = 0; it.asked.heuristic < HEURISTICS; it.asked.heuristic++)
         check(attempt(&it) == RP_DONE || it.asked.heuristic != RP_HEIGHT, "there is no space by heights");
     it.asked.heuristic = RP_VOLUME;
     check(attempt(&it) == RP_NOT_ENOUGH_SPACE, "there is space by volumes");
-    it.is_collection = 0;
+    it.way = BOXES_ALONE;
     check(attempt(&it) == RP_NOT_ENOUGH_SPACE, "there is space for boxes alone");
 }
 
 /* Two boxes of one bin go into two where their groups are excluded. */
 static void check_excluded(void)
 {
-    input it = {1, {{9, 9, 1}}, 1, {{{4, 4, 1, 1}, {4, 4, 1, 2}}, {{0, 0}}, {{1, 2}}, 2, 0, 0, 2, RP_BEST}};
+    input it = {ALL_OF_IT, {{9, 9, 1}}, 1, {{{4, 4, 1, 1}, {4, 4, 1, 2}}, {{0, 0}}, {{1, 2}}, 2, 0, 0, 2, RP_BEST}};
     check(attempt(&it) == RP_DONE, "two boxes are not packed");
     it.asked.exclusion_count = 1;
     check(attempt(&it) == RP_NOT_ENOUGH_SPACE, "excluded groups are in one bin");
@@ -120,12 +105,13 @@ static void check_excluded(void)
     check(attempt(&it) == RP_DONE, "excluded groups are not packed into two bins");
 }
 
-/* Of several things that are wrong the first is answered. */
-static void check_faults(void)
+/* Of several things that are wrong the first is answered, whether all is to be packed or what fits. */
+static void check_faults(enum way way)
 {
     static const uint32_t faults[] = {RP_BAD_LENGTHS, RP_UNKNOWN_HEURISTIC, RP_UNKNOWN_BOX, RP_EQUAL_GROUPS};
     for (uint32_t wrong = 1; wrong < 16; wrong++) {
         input it = several;
+        it.way = way;
         it.asked.places -= wrong & 1;
         it.asked.heuristic = wrong & 2 ? HEURISTICS : RP_BEST;
         if (wrong & 4)
@@ -149,13 +135,18 @@ static void check_long_lists(void)
     rp_collection boxes = RP_COLLECTION((const rp_box *)read, many), members = RP_COLLECTION((const rp_box *)read, 1);
     rp_bin bin = {1, 1, 1};
     uint32_t chosen = UNTOUCHED;
+    rp_fitted fitted = {UNTOUCHED, UNTOUCHED};
     members.member_count = many - 1;
     check(rectangle_pack_boxes(&bin, A_BIN, read, many, written, many) == RP_BAD_LENGTHS, "2^32 boxes");
     check(rectangle_pack_boxes(read, many, read, 0, written, 0) == RP_BAD_LENGTHS, "2^32 bins");
     check(rectangle_pack_collection(&bin, A_BIN, &boxes, 0, written, many, &chosen) == RP_BAD_LENGTHS, "2^32 boxes to collect");
     check(rectangle_pack_collection(&bin, A_BIN, &members, 0, written, many, &chosen) == RP_BAD_LENGTHS, "2^32 places");
     check(rectangle_pack_collection(read, many, &members, 0, written, 1, &chosen) == RP_BAD_LENGTHS, "2^32 bins to collect in");
+    check(rectangle_pack_fitting(&bin, A_BIN, &boxes, 0, written, many, &fitted) == RP_BAD_LENGTHS, "2^32 boxes to fit");
+    check(rectangle_pack_fitting(&bin, A_BIN, &members, 0, written, many, &fitted) == RP_BAD_LENGTHS, "2^32 places to fit");
+    check(rectangle_pack_fitting(read, many, &members, 0, written, 1, &fitted) == RP_BAD_LENGTHS, "2^32 bins to fit in");
     check(chosen == UNTOUCHED, "a heuristic is written where lists are too long");
+    check(fitted.heuristic == UNTOUCHED && fitted.left == UNTOUCHED, "what is left is written where lists are too long");
     munmap(read, many * sizeof(rp_box));
     munmap(written, many * sizeof(rp_placement));
 }
@@ -199,7 +190,8 @@ int main(void)
     check_several();
     check_best();
     check_excluded();
-    check_faults();
+    check_faults(ALL_OF_IT);
+    check_faults(WHAT_FITS);
     check_long_lists();
     check_readme();
     check_bad_lengths();

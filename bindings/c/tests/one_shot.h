@@ -5,29 +5,48 @@
 
 #include "packing_calls.h"
 
-/* A call: of a collection, or of boxes alone. */
+/* A call, by what it packs. */
 typedef struct input {
-    int is_collection;
+    enum way way;
     rp_bin bins[BINS];
     size_t bin_count;
     request asked;
 } input;
 
-/* What it answered; untouched where nothing was written. */
+/* What it answered; untouched where nothing was written. How many are left is written by calls that pack what fits. */
 typedef struct reply {
     uint32_t status, chosen;
+    size_t left;
     rp_placement placed[ENTRIES + 1];
 } reply;
 
-static uint32_t call_either(const input *it, const rp_bin *bins, const rp_collection *all, rp_placement *placed,
-                            uint32_t *chosen)
+/* The call, which writes what it wrote of the whole packing to `said`. */
+static uint32_t call_for(const input *it, const rp_bin *bins, const rp_collection *all, rp_placement *placed, reply *said)
 {
     const request *asked = &it->asked;
-    if (it->is_collection)
-        return rectangle_pack_collection(bins, it->bin_count, all, asked->heuristic, placed, asked->places, chosen);
-    uint32_t status = rectangle_pack_boxes(bins, it->bin_count, all->boxes, all->box_count, placed, asked->places);
-    if (status == RP_DONE)
-        *chosen = RP_VOLUME;
+    size_t size = asked->places * sizeof *placed;
+    uint32_t *chosen = guarded_untouched(CHOSEN, sizeof *chosen), status;
+    if (it->way == ALL_OF_IT) {
+        status = rectangle_pack_collection(bins, it->bin_count, all, asked->heuristic, placed, asked->places, chosen);
+    } else {
+        status = rectangle_pack_boxes(bins, it->bin_count, all->boxes, all->box_count, placed, asked->places);
+        if (status == RP_DONE)
+            *chosen = RP_VOLUME;
+    }
+    check_written(status, placed, size, chosen, sizeof *chosen);
+    said->chosen = *chosen;
+    return status;
+}
+
+static uint32_t call_for_what_fits(const input *it, const rp_bin *bins, const rp_collection *all, rp_placement *placed,
+                                   reply *said)
+{
+    const request *asked = &it->asked;
+    rp_fitted *fitted = guarded_untouched(CHOSEN, sizeof *fitted);
+    uint32_t status = rectangle_pack_fitting(bins, it->bin_count, all, asked->heuristic, placed, asked->places, fitted);
+    check_written(status, placed, asked->places * sizeof *placed, fitted, sizeof *fitted);
+    said->chosen = fitted->heuristic;
+    said->left = fitted->left;
     return status;
 }
 
@@ -37,14 +56,11 @@ static void perform_once(const input *it, reply *said)
     const rp_collection *all = guarded_collection(&it->asked);
     size_t size = it->asked.places * sizeof *said->placed;
     rp_placement *placed = guarded_untouched(PLACEMENTS_LIST, size);
-    uint32_t *chosen = guarded_untouched(CHOSEN, sizeof *chosen);
     memset(said, UNTOUCHED, sizeof *said);
-    said->status = call_either(it, bins, all, placed, chosen);
+    said->status = (it->way == WHAT_FITS ? call_for_what_fits : call_for)(it, bins, all, placed, said);
     check_kept(&it->asked, all);
     check(!memcmp(bins, it->bins, it->bin_count * sizeof *bins), "bins are changed");
-    check_written(said->status, placed, size, chosen);
     memcpy(said->placed, placed, size);
-    said->chosen = *chosen;
 }
 
 /* A call in which the requests for memory from first to last are refused. It gives all its memory back, and wants memory only
@@ -73,13 +89,17 @@ static void reply_by_rule(const input *it, reply *right)
         bins.free[i].count = 1;
     }
     memset(right, UNTOUCHED, sizeof *right);
-    right->status = answer_of(&it->asked, &bins, &best);
+    right->status = answer_of(&it->asked, it->way, &bins, &best);
     if (right->status != RP_DONE)
         return;
     right->chosen = best.heuristic;
+    if (it->way == WHAT_FITS)
+        right->left = left_by(&best);
     for (size_t i = 0; i < best.count; i++) {
         const entry *now = &best.entries[i];
         right->placed[i] = (rp_placement){(uint32_t)now->bin, now->at.x, now->at.y, now->at.z};
+        if (now->is_left)
+            right->placed[i] = (rp_placement){RP_LEFT_BIN, 0, 0, 0};
     }
 }
 
@@ -91,25 +111,31 @@ static rp_box box_of(const request *it, size_t i)
     return box;
 }
 
-/* Each box is inside its bin, and no two share a cell; groups are together, and those that are excluded are apart. */
+/* Each box that is not left is inside its bin, and no two share a cell; groups are together, and those that are excluded are apart. */
 static void check_placed(const input *it, const reply *said)
 {
     static cells filled[BINS];
     uint32_t bins[ENTRIES];
+    size_t left = 0;
     memset(filled, 0, sizeof filled);
     for (size_t i = 0; i < entries_of(&it->asked); i++) {
         rp_box box = box_of(&it->asked, i);
         rp_section at = section_at(&said->placed[i], &box);
         bins[i] = said->placed[i].bin;
+        if (it->way == WHAT_FITS && bins[i] == RP_LEFT_BIN) {
+            left++;
+            continue;
+        }
         check(bins[i] < it->bin_count, "a box is in no bin");
         fill(filled[bins[i]], &it->bins[bins[i]], &at);
     }
+    check(it->way != WHAT_FITS || said->left == left, "how many are left is another number");
     check_groups(&it->asked, bins);
 }
 
 static int are_same_replies(const reply *one, const reply *other)
 {
-    return one->status == other->status && one->chosen == other->chosen &&
+    return one->status == other->status && one->chosen == other->chosen && one->left == other->left &&
            !memcmp(one->placed, other->placed, sizeof one->placed);
 }
 

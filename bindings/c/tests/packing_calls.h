@@ -7,6 +7,9 @@
 
 enum { BOXES = 24, MEMBERS = ENTRIES - BOXES, EXCLUSIONS = 4 };
 
+/* What is packed: boxes alone, all of a collection, or what fits of one. */
+enum way { BOXES_ALONE, ALL_OF_IT, WHAT_FITS };
+
 /* What is asked for: a collection, a heuristic, and so many places for placements. A call that packs boxes alone is asked
    without members and exclusions, by volume. */
 typedef struct request {
@@ -44,11 +47,20 @@ static uint32_t fault_of(const request *it)
 }
 
 /* The status of a request, and where it is done the packing; the bins are left as it leaves them. */
-static uint32_t answer_of(const request *it, shelf *bins, packing *best)
+static uint32_t answer_of(const request *it, enum way way, shelf *bins, packing *best)
 {
     rp_collection all = collection_of(it);
     uint32_t fault = fault_of(it);
-    return fault == RP_DONE ? follow_rule(best, &all, it->heuristic, bins) : fault;
+    return fault == RP_DONE ? follow_rule(best, &all, it->heuristic, bins, way == WHAT_FITS) : fault;
+}
+
+/* How many entries a packing leaves. */
+static size_t left_by(const packing *it)
+{
+    size_t left = 0;
+    for (size_t i = 0; i < it->count; i++)
+        left += it->entries[i].is_left != 0;
+    return left;
 }
 
 /* The collection as a call is given it: each list, and the collection itself, is guarded. A collection of boxes alone is made
@@ -75,12 +87,12 @@ static void check_kept(const request *it, const rp_collection *all)
     check(all->box_count == it->box_count && all->member_count == it->member_count, "a collection is changed");
 }
 
-/* What a call wrote, where it says that it is done; else it wrote nothing. */
-static void check_written(uint32_t status, const void *placements, size_t size, const uint32_t *chosen)
+/* What a call wrote, where it says that it is done; else it wrote nothing. Of the whole packing it writes `chosen`, of this size. */
+static void check_written(uint32_t status, const void *placements, size_t size, const void *chosen, size_t size_of_chosen)
 {
     int is_written = status == RP_DONE;
     check(is_written || is_untouched(placements, size), "placements are written");
-    check(is_written != is_untouched(chosen, sizeof *chosen), "the heuristic is written, or is not");
+    check(is_written != is_untouched(chosen, size_of_chosen), "the heuristic is written, or is not");
 }
 
 /* The group of a box, or of a member behind the boxes. */
@@ -89,7 +101,8 @@ static uint32_t group_of(const request *it, size_t i)
     return i < it->box_count ? it->boxes[i].group : it->members[i - it->box_count].group;
 }
 
-/* Groups are together, and those that are excluded are apart. The bins are those of the placements. */
+/* Groups are together, or left together, and those that are excluded are apart. The bins are those of the placements, as indices, and
+   RP_LEFT_BIN of what is left. */
 static void check_groups(const request *it, const uint32_t *bins)
 {
     for (size_t i = 0; i < entries_of(it); i++) {
@@ -98,7 +111,7 @@ static void check_groups(const request *it, const uint32_t *bins)
             check(one == 0 || one != other || bins[i] == bins[j], "a group is in two bins");
             for (size_t k = 0; k < it->exclusion_count && one > 0 && other > 0; k++)
                 if (it->exclusions[k].one == one && it->exclusions[k].other == other)
-                    check(bins[i] != bins[j], "excluded groups are in one bin");
+                    check(bins[i] != bins[j] || bins[i] == RP_LEFT_BIN, "excluded groups are in one bin");
         }
     }
 }

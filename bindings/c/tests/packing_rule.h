@@ -27,12 +27,12 @@ typedef struct shelf {
     size_t count;
 } shelf;
 
-/* A box in one of its groups, and the rate of that group. Once it is placed: its bin on the shelf, where it stands there, and
-   how many entries were placed before it. */
+/* A box in one of its groups, and the rate of that group. It is placed, or left, or still to come. Once it is placed: its bin on the
+   shelf, where it stands there, and how many entries were placed before it. */
 typedef struct entry {
     rp_box box;
     rate key;
-    int is_placed;
+    int is_placed, is_left;
     size_t bin;
     rp_section at;
     uint64_t turn;
@@ -272,15 +272,16 @@ static size_t next_bin(const shelf *bins, const int *tried, uint32_t heuristic)
     return next;
 }
 
-/* The first entry of the group that is placed next: of those that were not, the one with the greatest rate. At equal rates
-   boxes that are alone go by their indices, and before the groups, which go by their numbers. */
+/* The first entry of the group that comes next, or ENTRIES: of those that are neither placed nor left, the one with the greatest
+   rate. At equal rates boxes that are alone go by their indices, and before the groups, which go by their numbers. */
 static size_t next_group(const packing *now)
 {
     size_t next = ENTRIES;
     for (size_t i = 0; i < now->count; i++) {
         const entry *it = &now->entries[i], *best = &now->entries[next % ENTRIES];
         int is_first = next == ENTRIES || it->key > best->key;
-        if (!it->is_placed && (is_first || (it->key == best->key && it->box.group < best->box.group)))
+        int is_to_come = !it->is_placed && !it->is_left;
+        if (is_to_come && (is_first || (it->key == best->key && it->box.group < best->box.group)))
             next = i;
     }
     return next;
@@ -307,65 +308,100 @@ static void begin_packing(packing *now, const rp_collection *all, uint32_t heuri
     }
 }
 
-/* Packs the collection into the bins by one heuristic. Whether that is done; if not, some groups may be placed. */
-static int pack_by(packing *now, const rp_collection *all, uint32_t heuristic, shelf *bins)
+/* Places a group in the first bin that takes all of it. Whether there is one. */
+static int find_bin(packing *now, const rp_collection *all, size_t first, shelf *bins)
+{
+    int tried[BINS] = {0};
+    for (size_t bin; (bin = next_bin(bins, tried, now->heuristic)) < BINS; tried[bin] = 1)
+        if (!is_excluded_from(all, now, first, bin) && place_group(now, first, bins, bin))
+            return 1;
+    return 0;
+}
+
+static void leave_group(packing *now, size_t first)
+{
+    for (size_t i = first; i < now->count; i++)
+        now->entries[i].is_left |= is_of_group(now, first, i);
+}
+
+/* Packs the collection into the bins by one heuristic: all of it, or what fits, and then a group that no bin takes is left. Whether
+   that is done; if not, some groups may be placed. */
+static int pack_by(packing *now, const rp_collection *all, uint32_t heuristic, shelf *bins, int what_fits)
 {
     begin_packing(now, all, heuristic);
-    while (now->placed < now->count) {
-        size_t first = next_group(now), bin = 0;
-        int tried[BINS] = {0};
-        uint64_t before = now->placed;
-        while (now->placed == before && (bin = next_bin(bins, tried, heuristic)) < BINS) {
-            tried[bin] = 1;
-            if (!is_excluded_from(all, now, first, bin))
-                place_group(now, first, bins, bin);
-        }
-        if (now->placed == before)
+    for (size_t first; (first = next_group(now)) < ENTRIES;) {
+        if (find_bin(now, all, first, bins))
+            continue;
+        if (!what_fits)
             return 0;
+        leave_group(now, first);
     }
     return 1;
 }
 
-/* How many bins a packing puts cells into, and how many into the last of these by its id: the fewer, the better. */
-static void count_use(const packing *now, const shelf *bins, size_t *used, rate *last)
+static rate cells_in(const rp_box *it)
 {
+    return rate_of(RP_VOLUME, it->width, it->height, it->depth);
+}
+
+/* What packings are compared by: how many cells are left, how many bins they put cells into, and how many into the last of these by
+   its id. */
+typedef struct use {
+    rate left;
+    size_t used;
+    rate last;
+} use;
+
+static use use_of(const packing *now, const shelf *bins)
+{
+    use sum = {0, 0, 0};
     size_t at = BINS;
-    *used = 0;
-    *last = 0;
+    for (size_t i = 0; i < now->count; i++)
+        if (now->entries[i].is_left)
+            sum.left += cells_in(&now->entries[i].box);
     for (size_t i = 0; i < bins->count; i++) {
         rate filled = 0;
         for (size_t j = 0; j < now->count; j++)
-            if (now->entries[j].bin == i)
-                filled += rate_of(RP_VOLUME, now->entries[j].at.width, now->entries[j].at.height, now->entries[j].at.depth);
-        *used += filled > 0;
+            if (now->entries[j].is_placed && now->entries[j].bin == i)
+                filled += cells_in(&now->entries[j].box);
+        sum.used += filled > 0;
         if (filled > 0 && (at == BINS || bins->ids[i] > bins->ids[at])) {
             at = i;
-            *last = filled;
+            sum.last = filled;
         }
     }
+    return sum;
 }
 
-/* What a packing by the heuristic of this number, or by the best one, has to answer. Where it is done, the bins are left as it
-   leaves them; otherwise they are as they were. */
-static uint32_t follow_rule(packing *best, const rp_collection *all, uint32_t heuristic, shelf *bins)
+/* The first in which they differ decides: the fewer, the better. */
+static int is_better_use(const use *one, const use *other)
 {
-    static shelf left, kept;
+    if (one->left != other->left)
+        return one->left < other->left;
+    return one->used != other->used ? one->used < other->used : one->last < other->last;
+}
+
+/* What a packing of all, or of what fits, by the heuristic of this number, or by the best one, has to answer. Where it is done, the
+   bins are left as it leaves them; otherwise they are as they were. */
+static uint32_t follow_rule(packing *best, const rp_collection *all, uint32_t heuristic, shelf *bins, int what_fits)
+{
+    static shelf after, kept;
     static packing now;
-    size_t used, fewest = BINS + 1;
-    rate last, least = 0;
+    use fewest = {0, 0, 0};
+    int is_done = 0;
     for (uint32_t i = 0; i < HEURISTICS; i++) {
-        copy_shelf(&left, bins);
-        if ((heuristic != i && heuristic != RP_BEST) || !pack_by(&now, all, i, &left))
+        copy_shelf(&after, bins);
+        if ((heuristic != i && heuristic != RP_BEST) || !pack_by(&now, all, i, &after, what_fits))
             continue;
-        count_use(&now, &left, &used, &last);
-        if (used < fewest || (used == fewest && last < least)) {
-            fewest = used;
-            least = last;
+        use next = use_of(&now, &after);
+        if (!is_done || is_better_use(&next, &fewest)) {
+            is_done = 1;
+            fewest = next;
             *best = now;
-            copy_shelf(&kept, &left);
+            copy_shelf(&kept, &after);
         }
     }
-    if (fewest > BINS)
+    if (!is_done)
         return RP_NOT_ENOUGH_SPACE;
     copy_shelf(bins, &kept);
     return RP_DONE;

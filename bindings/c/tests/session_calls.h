@@ -8,7 +8,7 @@
 
 enum kind {
     ADD_BIN, PACK, PACK_COLLECTION, RELEASE, COALESCE, COALESCE_ALL, CLEAR_BIN, REMOVE_BIN, GROW_BIN, PLACE_AT, PLACE_BEST,
-    PLACE_ANYWHERE, RELEASE_ALL, RECUT, KINDS
+    PLACE_ANYWHERE, RELEASE_ALL, RECUT, PACK_FITTING, KINDS
 };
 
 /* A command. The bin is an index in ids. Which number is released, pick chooses from those that were given by then, unless it
@@ -30,6 +30,7 @@ typedef struct command {
 /* What a command answered, and after it the statistics of all bins, and a number made from all free sections. */
 typedef struct answer {
     uint32_t status, chosen;
+    size_t left;
     rp_outstanding places[ENTRIES + 1];
     rp_stats stats[BINS];
     uint64_t free;
@@ -40,7 +41,12 @@ static const uint64_t NEVER_GIVEN = UINT64_MAX;
 
 static int packs(const command *it)
 {
-    return it->kind == PACK || it->kind == PACK_COLLECTION;
+    return it->kind == PACK || it->kind == PACK_COLLECTION || it->kind == PACK_FITTING;
+}
+
+static enum way way_of(const command *it)
+{
+    return it->kind == PACK ? BOXES_ALONE : it->kind == PACK_FITTING ? WHAT_FITS : ALL_OF_IT;
 }
 
 /* One of the numbers that were given, or of the next two; or one that never is. */
@@ -80,9 +86,25 @@ static uint32_t pack(rp_session *session, const command *it, answer *said)
         status = rectangle_pack_session_pack_collection(session, all, asked->heuristic, places, asked->places, chosen);
     }
     check_kept(asked, all);
-    check_written(status, places, size, chosen);
+    check_written(status, places, size, chosen, sizeof *chosen);
     memcpy(said->places, places, size);
     said->chosen = *chosen;
+    return status;
+}
+
+static uint32_t pack_fitting(rp_session *session, const command *it, answer *said)
+{
+    const request *asked = &it->asked;
+    const rp_collection *all = guarded_collection(asked);
+    size_t size = asked->places * sizeof *said->places;
+    rp_outstanding *places = guarded_untouched(PLACEMENTS_LIST, size);
+    rp_fitted *fitted = guarded_untouched(CHOSEN, sizeof *fitted);
+    uint32_t status = rectangle_pack_session_pack_fitting(session, all, asked->heuristic, places, asked->places, fitted);
+    check_kept(asked, all);
+    check_written(status, places, size, fitted, sizeof *fitted);
+    memcpy(said->places, places, size);
+    said->chosen = fitted->heuristic;
+    said->left = fitted->left;
     return status;
 }
 
@@ -115,6 +137,7 @@ static uint32_t perform(rp_session *session, const command *it, const account *n
 {
     memset(said->places, UNTOUCHED, sizeof said->places);
     memset(&said->chosen, UNTOUCHED, sizeof said->chosen);
+    memset(&said->left, UNTOUCHED, sizeof said->left);
     refused = 0;
     switch (it->kind) {
     case ADD_BIN:
@@ -140,6 +163,8 @@ static uint32_t perform(rp_session *session, const command *it, const account *n
         return release_all(session, it, now);
     case RECUT:
         return rectangle_pack_session_recut(session, ids[it->bin]);
+    case PACK_FITTING:
+        return pack_fitting(session, it, said);
     default:
         return pack(session, it, said);
     }

@@ -51,7 +51,7 @@ static uint32_t expected(const command *it, const account *now, outlook *next)
         return status_of_recutting(now, it->bin);
     default:
         shelve(&next->left, now);
-        return answer_of(&it->asked, &next->left, &next->packed);
+        return answer_of(&it->asked, way_of(it), &next->left, &next->packed);
     }
 }
 
@@ -67,7 +67,7 @@ static int may_want(const command *it)
     const request *asked = &it->asked;
     if (takes_no_memory(it) || (it->kind == RELEASE_ALL && it->picks.count == 0))
         return 0;
-    return !packs(it) || asked->box_count + asked->exclusion_count > 0 || asked->heuristic == RP_BEST;
+    return !packs(it) || asked->box_count + asked->exclusion_count > 0;
 }
 
 /* The free sections of all bins after a command that is done, but for those of a bin that is cut anew. */
@@ -127,18 +127,33 @@ static void check_sections(const command *it, const outlook *next, const section
     }
 }
 
-/* Groups are together, and those that are excluded are apart; the placements are those of the rule; and the numbers are the
-   next ones, in the order of packing. */
-static void check_packed(const command *it, const account *now, const packing *right, const answer *said)
+/* What is written of an entry that is left. A bin may have the id RP_LEFT_BIN, but no placement has the number. */
+static const rp_outstanding WRITTEN_AS_LEFT = {RP_LEFT_NUMBER, {RP_LEFT_BIN, 0, 0, 0}};
+
+/* Groups are together, or left, and those that are excluded are apart. */
+static void check_groups_packed(const request *asked, const answer *said)
 {
     uint32_t bins[ENTRIES];
-    for (size_t i = 0; i < entries_of(&it->asked); i++)
-        bins[i] = said->places[i].placement.bin;
-    check_groups(&it->asked, bins);
+    for (size_t i = 0; i < entries_of(asked); i++) {
+        const rp_outstanding *it = &said->places[i];
+        bins[i] = it->number == RP_LEFT_NUMBER ? RP_LEFT_BIN : (uint32_t)index_of(it->placement.bin);
+    }
+    check_groups(asked, bins);
+}
+
+/* The placements are those of the rule; and the numbers are the next ones, in the order of packing. */
+static void check_packed(const command *it, const account *now, const packing *right, const answer *said)
+{
+    check_groups_packed(&it->asked, said);
     check(said->chosen == right->heuristic, "the heuristic is not that of the rule");
+    check(it->kind != PACK_FITTING || said->left == left_by(right), "how many are left is another number");
     for (size_t i = 0; i < right->count; i++) {
         const rp_placement *at = &said->places[i].placement;
         rp_section place = section_at(at, &right->entries[i].box);
+        if (right->entries[i].is_left) {
+            check(!memcmp(&said->places[i], &WRITTEN_AS_LEFT, sizeof WRITTEN_AS_LEFT), "an entry that is left is written otherwise");
+            continue;
+        }
         check(said->places[i].number == now->next + right->entries[i].turn, "the number of a placement");
         check(index_of(at->bin) < BINS && are_same(&place, &right->entries[i].at), "a placement is not where the rule has it");
     }
@@ -150,11 +165,13 @@ static void take_up_packing(account *now, const outlook *next, const answer *sai
     const packing *packed = &next->packed;
     for (size_t i = 0; i < packed->count; i++) {
         const entry *it = &packed->entries[i];
+        if (it->is_left)
+            continue;
         check(said->places[i].placement.bin == next->left.ids[it->bin], "the bin of a placement is not that of the rule");
         now->placed[now->count + it->turn] = (standing){said->places[i], it->box, (uint32_t)i};
     }
-    now->count += packed->count;
-    now->next += packed->count;
+    now->count += packed->placed;
+    now->next += packed->placed;
 }
 
 /* Takes up in the account what was done. */

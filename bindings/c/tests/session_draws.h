@@ -78,6 +78,7 @@ static void draw_command(command *it, enum kind kind, uint32_t depth)
             mistake_places(&it->asked);
         break;
     case PACK_COLLECTION:
+    case PACK_FITTING:
         draw_collection(&it->asked, MOST_BOXES, MOST_MEMBERS, box_depth);
         break;
     case RELEASE:

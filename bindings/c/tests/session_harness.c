@@ -18,7 +18,7 @@
 #include "session_restoring.h"
 #include "straight_cuts_cases.h"
 
-enum { SCRIPTS = 50, STATUSES = RP_NOT_FROM_CUTS + 1, DRAWN_PARTS = 20000, REFUSED_PARTS = 100 };
+enum { SCRIPTS = 60, STATUSES = RP_NOT_FROM_CUTS + 1, DRAWN_PARTS = 20000, REFUSED_PARTS = 100 };
 
 /* Reads all plans, with refusals of their own. Their requests are not counted among those of the script. */
 static void read_plans(rp_session *session, const account *now)
@@ -77,6 +77,7 @@ static void check_same(const answer *one, const answer *other)
     for (size_t i = 0; i < COMMANDS; i++) {
         check(one[i].status == other[i].status, "a refused request changes a status");
         check(one[i].chosen == other[i].chosen, "a refused request changes a heuristic");
+        check(one[i].left == other[i].left, "a refused request changes how many are left");
         check(!memcmp(one[i].places, other[i].places, sizeof one[i].places), "a refused request changes placements");
         check(!memcmp(one[i].stats, other[i].stats, sizeof one[i].stats), "a refused request changes statistics");
         check(one[i].free == other[i].free, "a refused request changes free sections");
@@ -104,8 +105,9 @@ static void draw_script(command *script)
 {
     static const enum kind kinds[] = {ADD_BIN, ADD_BIN, ADD_BIN, PACK, PACK, PACK_COLLECTION, PACK_COLLECTION, PACK_COLLECTION,
                                       PACK_COLLECTION, RELEASE, RELEASE, RELEASE, COALESCE, COALESCE, COALESCE_ALL, CLEAR_BIN,
-                                      REMOVE_BIN, GROW_BIN, GROW_BIN, PLACE_AT, PLACE_AT, PLACE_BEST, PLACE_BEST,
-                                      PLACE_ANYWHERE, PLACE_ANYWHERE, RELEASE_ALL, RELEASE_ALL, RECUT, RECUT};
+                                      REMOVE_BIN, GROW_BIN, GROW_BIN, GROW_BIN, PLACE_AT, PLACE_AT, PLACE_BEST, PLACE_BEST,
+                                      PLACE_ANYWHERE, PLACE_ANYWHERE, RELEASE_ALL, RELEASE_ALL, RECUT, RECUT, PACK_FITTING,
+                                      PACK_FITTING, PACK_FITTING};
     uint32_t depth = within(0, 1) ? SIDE : 1;
     for (size_t i = 0; i < COMMANDS; i++)
         draw_command(&script[i], i == 0 ? ADD_BIN : kinds[within(0, sizeof kinds / sizeof *kinds - 1)], depth);
@@ -138,20 +140,20 @@ static void begin_with_pinwheel(command *script)
 }
 
 /* Three boxes that find space by their heights and not by their volumes. Then one box in two groups, which are excluded,
-   and alone too: with all that may be wrong with this, and at last with nothing wrong. The commands behind these stay as they
-   were drawn. */
-static void begin_with_mistakes(command *script)
+   and alone too: with all that may be wrong with this, and at last with nothing wrong. Each is a command of this kind. The commands
+   behind these stay as they were drawn. */
+static void begin_with_mistakes(command *script, enum kind kind)
 {
     static const request best = {{{1, 3, 1, 0}, {3, 2, 1, 0}, {3, 1, 1, 0}}, {{0, 0}}, {{0, 0}}, 3, 0, 0, 3, RP_BEST};
     static const request pair = {{{2, 2, 1, 1}}, {{0, 2}, {0, 0}}, {{1, 2}, {2, 1}, {1, 3}}, 1, 2, 3, 3, RP_BEST};
     size_t at = 0;
     script[at++] = (command){.kind = ADD_BIN, .size = {4, 4, 1}};
-    script[at++] = (command){.kind = PACK_COLLECTION, .asked = best};
+    script[at++] = (command){.kind = kind, .asked = best};
     script[at++] = (command){.kind = ADD_BIN, .bin = 1, .size = {6, 3, 1}};
     script[at++] = (command){.kind = ADD_BIN, .bin = 2, .size = {6, 2, 1}};
     for (uint32_t wrong = 16; wrong-- > 0;) {
         command *it = &script[at++];
-        *it = (command){.kind = PACK_COLLECTION, .asked = pair};
+        *it = (command){.kind = kind, .asked = pair};
         it->asked.places += wrong & 1;
         it->asked.heuristic = wrong & 2 ? HEURISTICS : RP_BEST;
         it->asked.members[1].index = wrong & 4 ? 1 : 0;
@@ -309,26 +311,28 @@ int main(void)
     static const uint32_t mistakes[] = {RP_UNKNOWN_HEURISTIC, RP_UNKNOWN_BOX, RP_EQUAL_GROUPS};
     static command script[COMMANDS];
     static answer answers[COMMANDS];
-    long seen[STATUSES] = {0}, done[KINDS] = {0}, done_by[HEURISTICS] = {0}, best_by[HEURISTICS] = {0}, wanted = 0;
-    for (int i = 0; i <= SCRIPTS + 1; i++) {
+    long seen[STATUSES] = {0}, done[KINDS] = {0}, done_by[HEURISTICS] = {0}, best_by[HEURISTICS] = {0}, left = 0, wanted = 0;
+    for (int i = 0; i <= SCRIPTS + 2; i++) {
         long before = no_plans;
         draw_script(script);
         if (i == SCRIPTS)
             begin_with_pinwheel(script);
-        if (i == SCRIPTS + 1)
-            begin_with_mistakes(script);
+        if (i > SCRIPTS)
+            begin_with_mistakes(script, i == SCRIPTS + 1 ? PACK_COLLECTION : PACK_FITTING);
         wanted += run_each(script, answers);
         check(i != SCRIPTS || no_plans > before, "a pinwheel has a plan");
-        if (i == SCRIPTS + 1)
+        if (i > SCRIPTS)
             check_mistakes(answers);
         for (size_t j = 0; j < COMMANDS; j++) {
             seen[answers[j].status]++;
             done[script[j].kind] += answers[j].status == RP_DONE;
+            left += script[j].kind == PACK_FITTING && answers[j].status == RP_DONE && answers[j].left > 0;
             if (answers[j].status == RP_DONE && packs(&script[j]))
                 (script[j].asked.heuristic == RP_BEST ? best_by : done_by)[answers[j].chosen]++;
         }
     }
     check_seen(seen, done, wanted, done_by, best_by);
+    check(left > 20, "boxes are left too seldom");
     long wanted_again = restore_many(), refusals_of_parts = 0;
     for (int i = 1; i < KINDS_OF_WRONG; i++)
         refusals_of_parts += wrongs[i];
