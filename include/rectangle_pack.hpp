@@ -202,6 +202,14 @@ template <class Place> struct Packed {
     Heuristic chosen;
 };
 
+/// Where the boxes of a collection stand that fit: first those of the boxes, then those of the members; nothing for one that is
+/// left, since no bin took its group. chosen is the heuristic that packed, and left how many are left.
+template <class Place> struct Fitted {
+    std::vector<std::optional<Place>> placements;
+    Heuristic chosen;
+    std::size_t left;
+};
+
 /// Where a box stands in a session, and the number by which it is released.
 struct Outstanding {
     PlacementNumber number;
@@ -413,6 +421,35 @@ inline Outstanding outstanding(const rp_outstanding &it) noexcept
     return {PlacementNumber{it.number}, BinId{at.bin}, at.x, at.y, at.z};
 }
 
+/// The placement of a box that may be left.
+inline std::optional<Placement> fitted(const Placement &it) noexcept
+{
+    return it.bin == RP_LEFT_BIN ? std::nullopt : std::optional<Placement>(it);
+}
+
+/// The same in a session, where a bin may have any id.
+inline std::optional<Outstanding> fitted(const rp_outstanding &it) noexcept
+{
+    return it.number == RP_LEFT_NUMBER ? std::nullopt : std::optional<Outstanding>(outstanding(it));
+}
+
+/// An array that a packing writes to, and the list that is made of it. Both have all their memory before boxes are packed, so that no
+/// placement is lost.
+template <class Written, class Entry> struct Places {
+    explicit Places(std::size_t count) : array(count) { list.reserve(count); }
+
+    /// The list, each entry as `of` makes it.
+    template <class Of> std::vector<Entry> taken(Of of) &&
+    {
+        for (std::size_t i = 0; i < array.size(); i++)
+            list.push_back(of(array[i]));
+        return std::move(list);
+    }
+
+    Room<Written> array;
+    std::vector<Entry> list;
+};
+
 } // namespace detail
 
 /// Packs all boxes into the bins, by their volumes: placement i is where box i stands.
@@ -432,6 +469,24 @@ inline Packed<Placement> pack(View<Bin> bins, const Collection &collection, Heur
     detail::check(::rectangle_pack_collection(bins.data(), bins.size(), &list, static_cast<std::uint32_t>(heuristic),
                                               places.data(), places.size(), &chosen));
     return {std::move(places).taken(), Heuristic{chosen}};
+}
+
+/// Packs what fits of a collection into the bins, by a heuristic: a group that no bin takes is left, and the next one is tried. With
+/// Heuristic::best it is that which leaves the fewest cells, and of several such the one that uses the bins best.
+inline Fitted<Placement> fit(View<Bin> bins, const Collection &collection, Heuristic heuristic = Heuristic::volume)
+{
+    detail::Places<Placement, std::optional<Placement>> places(detail::count_of(collection));
+    const rp_collection list = detail::as_c(collection);
+    rp_fitted said = {};
+    detail::check(::rectangle_pack_fitting(bins.data(), bins.size(), &list, static_cast<std::uint32_t>(heuristic),
+                                           places.array.data(), places.array.size(), &said));
+    return {std::move(places).taken([](const Placement &it) { return detail::fitted(it); }), Heuristic{said.heuristic}, said.left};
+}
+
+/// Packs what fits of boxes, by their volumes.
+inline Fitted<Placement> fit(View<Bin> bins, View<Box> boxes)
+{
+    return fit(bins, Collection{boxes});
 }
 
 /// What is wrong first with a packing, whoever made it, as rectangle_pack_check says it; nothing where it is one: each box is placed
@@ -520,7 +575,7 @@ public:
         Places places(detail::count_of({boxes}));
         detail::check(
             ::rectangle_pack_session_pack(at(), boxes.data(), boxes.size(), places.array.data(), places.array.size()));
-        return std::move(places).taken();
+        return std::move(places).taken(detail::outstanding);
     }
 
     /// Packs a collection into what is free in the bins, by a heuristic. Where this throws, the session is as it was.
@@ -531,8 +586,25 @@ public:
         std::uint32_t chosen = 0;
         detail::check(::rectangle_pack_session_pack_collection(at(), &list, static_cast<std::uint32_t>(heuristic),
                                                                places.array.data(), places.array.size(), &chosen));
-        return {std::move(places).taken(), Heuristic{chosen}};
+        return {std::move(places).taken(detail::outstanding), Heuristic{chosen}};
     }
+
+    /// Packs what fits of a collection into what is free in the bins, by a heuristic: a group that no bin takes is left, and the next
+    /// one is tried. With Heuristic::best it is that which leaves the fewest cells, and of several such the one that uses the bins
+    /// best. Where this throws, the session is as it was.
+    Fitted<Outstanding> fit(const Collection &collection, Heuristic heuristic = Heuristic::volume)
+    {
+        detail::Places<rp_outstanding, std::optional<Outstanding>> places(detail::count_of(collection));
+        const rp_collection list = detail::as_c(collection);
+        rp_fitted said = {};
+        detail::check(::rectangle_pack_session_pack_fitting(at(), &list, static_cast<std::uint32_t>(heuristic),
+                                                            places.array.data(), places.array.size(), &said));
+        return {std::move(places).taken([](const rp_outstanding &it) { return detail::fitted(it); }), Heuristic{said.heuristic},
+                said.left};
+    }
+
+    /// Packs what fits of boxes, by their volumes.
+    Fitted<Outstanding> fit(View<Box> boxes) { return fit(Collection{boxes}); }
 
     /// Takes back a placement by its number: its cells are free again.
     void release(PlacementNumber placement)
@@ -678,20 +750,7 @@ public:
 private:
     explicit Session(rp_session session) noexcept : session_(session) {}
 
-    /// The placements of a packing. They have all their memory before boxes are packed, so that none is lost.
-    struct Places {
-        explicit Places(std::size_t count) : array(count) { list.reserve(count); }
-
-        std::vector<Outstanding> taken() &&
-        {
-            for (std::size_t i = 0; i < array.size(); i++)
-                list.push_back(detail::outstanding(array[i]));
-            return std::move(list);
-        }
-
-        detail::Room<rp_outstanding> array;
-        std::vector<Outstanding> list;
-    };
+    using Places = detail::Places<rp_outstanding, Outstanding>;
 
     static rp_session none() noexcept { return RP_NO_SESSION; }
     static std::uint32_t number(BinId id) noexcept { return static_cast<std::uint32_t>(id); }

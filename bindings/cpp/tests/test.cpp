@@ -261,6 +261,87 @@ static void test_session_collections()
     check(session.outstanding().size() == 3, "a member is not outstanding");
 }
 
+/* By volume: two boxes of one group, that do not go into one bin of 10 x 10 together; a box as high as it; a box of group 2, beside
+   that; and two of group 3, which is excluded with group 2, one of them a member. */
+static const rp::Box drawers[] = {rp::box(6, 10, 1, 1), rp::box(6, 10, 1, 1), rp::box(4, 10), rp::box(2, 2, 1, 2), rp::box(1, 1, 1, 3)};
+static const rp::Member drawer_members[] = {{4, 3}};
+static const rp::Exclusion drawers_apart[] = {{3, 2}};
+
+/* Two of the six are placed, and the others are left. */
+template <class Place> static bool are_two_placed(const rp::Fitted<Place> &fitted)
+{
+    const std::vector<std::optional<Place>> &at = fitted.placements;
+    return fitted.left == 4 && at.size() == 6 && !at[0] && !at[1] && at[2] && at[3] && !at[4] && !at[5];
+}
+
+/* Three boxes that fit into a sheet of 4 x 4 by their heights; by their volumes the first is left. */
+static const rp::Box by_heights[] = {rp::box(1, 3), rp::box(3, 2), rp::box(3, 1)};
+
+static void test_what_fits()
+{
+    const rp::Bin bins[] = {rp::bin(10, 10)};
+    const rp::Collection all{drawers, drawer_members, drawers_apart};
+    const rp::Fitted<rp::Placement> fitted = rp::fit(bins, all);
+    check(are_two_placed(fitted) && fitted.chosen == rp::Heuristic::volume, "other boxes are left");
+    const rp::Placement &high = *fitted.placements[2], &beside = *fitted.placements[3];
+    check(high.bin == 0 && high.x == 0 && high.y == 0 && high.z == 0, "a box that fits is elsewhere");
+    check(beside.bin == 0 && beside.x == 4 && beside.y == 0 && beside.z == 0, "a box beside it is elsewhere");
+    check(rp::fit({}, all, rp::Heuristic::best).left == 6, "a box fits into no bins");
+    check(rp::fit(bins, rp::View<rp::Box>()).placements.empty(), "no boxes have placements");
+
+    const rp::Bin sheet[] = {rp::bin(4, 4)};
+    const rp::Fitted<rp::Placement> by_volume = rp::fit(sheet, by_heights);
+    check(by_volume.left == 1 && !by_volume.placements[0] && by_volume.placements[2]->y == 2, "by volumes another box is left");
+    const rp::Fitted<rp::Placement> best = rp::fit(sheet, rp::Collection{by_heights}, rp::Heuristic::best);
+    check(best.left == 0 && best.chosen == rp::Heuristic::height, "the best leaves a box");
+
+    const auto by = [&](const rp::Collection &it, std::uint32_t heuristic) {
+        return refusal([&] { rp::fit(bins, it, rp::Heuristic{heuristic}); });
+    };
+    const rp::Member bad_members[] = {{5, 1}};
+    const rp::Exclusion bad_exclusions[] = {{1, 1}};
+    const rp::View<rp::Member> endless(drawer_members, std::size_t{1} << 32);
+    check(by(all, 8) == Status::unknown_heuristic, "there is a heuristic 8 to fit by");
+    check(by({drawers, bad_members}, 0) == Status::unknown_box, "a member names no box to fit");
+    check(by({drawers, {}, bad_exclusions}, 0) == Status::equal_groups, "a group to fit is excluded with itself");
+    check(by({drawers, endless}, 0) == Status::bad_lengths, "there are 2^32 members to fit");
+}
+
+static void test_what_fits_in_a_session()
+{
+    // A bin may have the id by which C says that a box is left.
+    const std::uint32_t id = RP_LEFT_BIN;
+    rp::Session session;
+    session.add_bin(BinId{id}, rp::bin(10, 10));
+    const rp::Collection all{drawers, drawer_members, drawers_apart};
+    const rp::Fitted<rp::Outstanding> fitted = session.fit(all, rp::Heuristic::volume);
+    check(are_two_placed(fitted) && fitted.chosen == rp::Heuristic::volume, "other boxes are left in a session");
+    check(is_at(*fitted.placements[2], 0, id, 0, 0) && is_at(*fitted.placements[3], 1, id, 4, 0), "a box that fits is elsewhere");
+    const std::vector<rp::Standing> standing = session.outstanding();
+    check(standing.size() == 2 && standing[0].index == 2 && standing[1].index == 3, "another box is outstanding");
+    must_be(Status::unknown_heuristic, [&] { session.fit(all, rp::Heuristic{8}); }, "there is a heuristic 8 to fit by");
+    const rp::Exclusion bad_exclusions[] = {{1, 1}};
+    must_be(Status::equal_groups, [&] { session.fit({drawers, {}, bad_exclusions}); }, "a group to fit is excluded with itself");
+    check(session.next_number() == rp::PlacementNumber{2}, "a refusal gives numbers");
+
+    session.clear_bin(BinId{id});
+    session.add_bin(BinId{0}, rp::bin(4, 4));
+    const rp::Fitted<rp::Outstanding> best = session.fit({by_heights, {}, {}}, rp::Heuristic::best);
+    check(best.left == 0 && best.chosen == rp::Heuristic::height, "the best leaves a box in a session");
+    check(session.fit(rp::View<rp::Box>(drawers, 2)).left == 2, "a part of a group is placed");
+}
+
+/* No number is left for two boxes, also where both would be left. */
+static void test_numbers_of_what_fits()
+{
+    const std::uint64_t last = RP_LEFT_NUMBER - 1;
+    rp::Session session = rp::Session::restore({{}, {}, rp::PlacementNumber{last}});
+    must_be(Status::numbers_used_up, [&] { session.fit(by_heights); }, "there are numbers for three");
+    session.add_bin(BinId{7}, rp::bin(9, 9));
+    const rp::Fitted<rp::Outstanding> fitted = session.fit(rp::View<rp::Box>(by_heights, 1));
+    check(is_at(*fitted.placements[0], last, 7, 0, 0) && !session.next_number(), "the last number is another");
+}
+
 static void test_refusals_of_a_session()
 {
     rp::Session session;
@@ -346,6 +427,7 @@ static void test_refused_memory()
     memory([] { rp::Session(); }, "a session is made of nothing");
     memory([&] { rp::pack(bins, boxes); }, "a list is packed without memory");
     memory([&] { rp::pack(bins, rp::Collection{boxes}); }, "a collection is packed without memory");
+    memory([&] { rp::fit(bins, boxes); }, "what fits is packed without memory");
     const rp::Claim claims[] = {{0, 0, {0, 0, 0, 1, 1, 1}}};
     memory([&] { rp::check(bins, {}, claims); }, "a packing is judged without memory");
     const rp::Section standing[] = {{0, 0, 0, 4, 10, 1}};
@@ -355,6 +437,7 @@ static void test_refused_memory()
     memory([&] { session.add_bin(BinId{1}, rp::bin(1, 1)); }, "a bin is made of nothing");
     memory([&] { session.pack(boxes); }, "a session packs without memory");
     memory([&] { session.pack(rp::Collection{boxes}); }, "a session packs a collection without memory");
+    memory([&] { session.fit(boxes); }, "a session packs what fits without memory");
     memory([&] { session.cut_plan(BinId{0}); }, "a plan is made of nothing");
     memory([&] { session.place_at(BinId{0}, {4, 0, 0, 1, 1, 1}); }, "a box is placed without memory");
     memory([&] { empty.place_best(BinId{0}, boxes[0]); }, "a box is placed best without memory");
@@ -559,6 +642,9 @@ int main()
     test_boxes_that_fit_best();
     test_bins_that_are_cut_anew();
     test_session_collections();
+    test_what_fits();
+    test_what_fits_in_a_session();
+    test_numbers_of_what_fits();
     test_refusals_of_a_session();
     test_no_plan();
     test_long_lists();
