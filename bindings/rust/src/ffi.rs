@@ -2,6 +2,7 @@
 
 mod calls;
 mod cuts;
+mod fitting;
 #[cfg(test)]
 mod kept;
 mod saved;
@@ -13,6 +14,7 @@ use std::ptr;
 
 use calls::*;
 pub(crate) use cuts::straight_cuts;
+pub(crate) use fitting::fit;
 pub(crate) use saved::Saved;
 pub(crate) use calls::{
     Collection, RpBin, RpBox, RpClaim, RpEntry, RpExclusion, RpFault, RpOutstanding, RpPlacement,
@@ -70,8 +72,14 @@ pub(crate) fn pack(
             &mut chosen,
         )
     };
+    packed(status)?;
+    Ok((Heuristic::of(chosen), placements))
+}
+
+/// What a call that packs once answers.
+fn packed(status: u32) -> Result<(), RectanglePackError> {
     match status {
-        DONE => Ok((Heuristic::of(chosen), placements)),
+        DONE => Ok(()),
         NOT_ENOUGH_SPACE => Err(RectanglePackError::NotEnoughBinSpace),
         OUT_OF_MEMORY => Err(RectanglePackError::OutOfMemory),
         EQUAL_GROUPS => Err(RectanglePackError::EqualGroups),

@@ -26,7 +26,8 @@
 //! ```
 //!
 //! [`pack_rects_by`] packs by another heuristic than the volume, and [`pack_rects_best`] by the one with which the bins are used
-//! best. Groups that are [excluded](GroupedRectsToPlace::exclude) go into different bins.
+//! best. Groups that are [excluded](GroupedRectsToPlace::exclude) go into different bins. [`pack_rects_fitting`] packs what fits, and
+//! answers the groups that are left.
 //!
 //! [`first_fault`] says what is wrong first with a packing, whoever made it. [`straight_cuts`] says how straight cuts part a bin into
 //! boxes that stand in it.
@@ -40,6 +41,7 @@
 
 mod cutting;
 mod ffi;
+mod fitting;
 mod heuristic;
 mod judge;
 mod pack;
@@ -47,6 +49,7 @@ mod rects;
 mod session;
 
 pub use cutting::{straight_cuts, SectionsError};
+pub use fitting::{pack_rects_fitting, pack_rects_fitting_best, Fitted, Group};
 pub use heuristic::{Heuristic, UnknownHeuristic};
 pub use judge::{first_fault, AloneFault, Claim, Conflict, Fault, Turns};
 pub use pack::{pack_rects, pack_rects_best, pack_rects_by, RectanglePackError, RectanglePackOk};

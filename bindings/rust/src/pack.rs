@@ -13,6 +13,36 @@ pub struct RectanglePackOk<RectId, BinId> {
     placements: Vec<(RectId, BinId, PackedLocation)>,
 }
 
+impl<RectId: Ord + Clone, BinId: Clone> RectanglePackOk<RectId, BinId> {
+    /// What C placed, by its names. The bins have their places in the map.
+    pub(crate) fn named<'a, GroupId>(
+        rects: &GroupedRectsToPlace<RectId, GroupId>,
+        bins: &BTreeMap<BinId, TargetBin>,
+        placed: impl Iterator<Item = (&'a RectId, ffi::RpPlacement)>,
+    ) -> Self
+    where
+        RectId: 'a,
+    {
+        let bin_ids: Vec<&BinId> = bins.keys().collect();
+        let mut packed = RectanglePackOk {
+            packed_locations: BTreeMap::new(),
+            placements: Vec::new(),
+        };
+        for (id, placement) in placed {
+            let bin = bin_ids[placement.bin as usize].clone();
+            let location = PackedLocation {
+                corner: (placement.x, placement.y, placement.z),
+                size: rects.sizes[id],
+            };
+            packed
+                .packed_locations
+                .insert(id.clone(), (bin.clone(), location));
+            packed.placements.push((id.clone(), bin, location));
+        }
+        packed
+    }
+}
+
 impl<RectId, BinId> RectanglePackOk<RectId, BinId> {
     /// The bin and the location of each box; of a box in several groups, those in the greatest of them.
     pub fn packed_locations(&self) -> &BTreeMap<RectId, (BinId, PackedLocation)> {
@@ -162,26 +192,19 @@ where
     GroupId: Ord,
 {
     let entries = rects.entries();
-    if u32::try_from(entries.len()).is_err() || u32::try_from(bins.len()).is_err() {
+    let bin_list = bins_for_c(entries.len(), bins)?;
+    let (chosen, placed) = ffi::pack(&bin_list, &rects.collection(&entries), heuristic)?;
+    let ids = entries.iter().map(|&(id, _)| id);
+    Ok((chosen, RectanglePackOk::named(rects, bins, ids.zip(placed))))
+}
+
+/// The bins as C takes them, unless there are too many of them, or of entries.
+pub(crate) fn bins_for_c<BinId>(
+    entries: usize,
+    bins: &BTreeMap<BinId, TargetBin>,
+) -> Result<Vec<ffi::RpBin>, RectanglePackError> {
+    if u32::try_from(entries).is_err() || u32::try_from(bins.len()).is_err() {
         return Err(RectanglePackError::TooMany);
     }
-    let bin_ids: Vec<&BinId> = bins.keys().collect();
-    let bin_list: Vec<ffi::RpBin> = bins.values().map(ffi::RpBin::from).collect();
-    let (chosen, placed) = ffi::pack(&bin_list, &rects.collection(&entries), heuristic)?;
-    let mut packed = RectanglePackOk {
-        packed_locations: BTreeMap::new(),
-        placements: Vec::with_capacity(entries.len()),
-    };
-    for (&(id, _), placement) in entries.iter().zip(&placed) {
-        let bin = bin_ids[placement.bin as usize].clone();
-        let location = PackedLocation {
-            corner: (placement.x, placement.y, placement.z),
-            size: rects.sizes[id],
-        };
-        packed
-            .packed_locations
-            .insert(id.clone(), (bin.clone(), location));
-        packed.placements.push((id.clone(), bin, location));
-    }
-    Ok((chosen, packed))
+    Ok(bins.values().map(ffi::RpBin::from).collect())
 }

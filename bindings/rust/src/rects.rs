@@ -2,7 +2,7 @@
 
 use std::collections::{BTreeMap, BTreeSet};
 
-use crate::{ffi, RectToInsert};
+use crate::{ffi, Group, RectToInsert};
 
 /// Boxes to place, and the groups that they are in. The boxes of one group go into one bin together, and groups that are excluded
 /// go into different bins.
@@ -95,6 +95,24 @@ impl<RectId: Ord + Clone, GroupId: Ord> GroupedRectsToPlace<RectId, GroupId> {
             .zip(self.groups.values())
             .flat_map(|(number, ids)| ids.iter().map(move |id| (id, number)));
         alone.chain(grouped).collect()
+    }
+
+    /// The groups of these entries, each once. The entries of a group stand side by side.
+    pub(crate) fn groups_of<'a>(
+        &'a self,
+        entries: impl Iterator<Item = (&'a RectId, u32)>,
+    ) -> Vec<Group<'a, GroupId, RectId>> {
+        let names: Vec<&GroupId> = self.groups.keys().collect();
+        let (mut groups, mut last) = (Vec::new(), 0);
+        for (id, number) in entries {
+            match number {
+                0 => groups.push(Group::Ungrouped(id)),
+                _ if number == last => (),
+                _ => groups.push(Group::Grouped(names[number as usize - 1])),
+            }
+            last = number;
+        }
+        groups
     }
 
     /// The boxes of these entries, and the groups that are excluded, as C takes them.

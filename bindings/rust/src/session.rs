@@ -1,5 +1,6 @@
 //! A session: bins that stay, and boxes that are packed into them and released by number.
 
+mod fitting;
 mod parts;
 mod saving;
 #[cfg(test)]

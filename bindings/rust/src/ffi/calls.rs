@@ -77,6 +77,18 @@ pub(crate) struct RpOutstanding {
     pub(crate) placement: RpPlacement,
 }
 
+/// What is written of a packing of what fits.
+#[repr(C)]
+#[derive(Default)]
+pub(super) struct RpFitted {
+    pub(super) heuristic: u32,
+    pub(super) left: usize,
+}
+
+/// In place of a bin, in one call, and of a number, in a session: the box is left.
+pub(super) const LEFT_BIN: u32 = u32::MAX;
+pub(super) const LEFT_NUMBER: u64 = u64::MAX;
+
 #[repr(C)]
 pub(super) struct RpSession {
     pub(super) at: *mut u8,
@@ -229,6 +241,15 @@ extern "C" {
         placement_count: usize,
         chosen: *mut u32,
     ) -> u32;
+    pub(super) fn rectangle_pack_fitting(
+        bins: *const RpBin,
+        bin_count: usize,
+        collection: *const RpCollection,
+        heuristic: u32,
+        placements: *mut RpPlacement,
+        placement_count: usize,
+        fitted: *mut RpFitted,
+    ) -> u32;
     pub(super) fn rectangle_pack_session_new(session: *mut RpSession) -> u32;
     pub(super) fn rectangle_pack_session_restore(
         session: *mut RpSession,
@@ -251,6 +272,14 @@ extern "C" {
         placements: *mut RpOutstanding,
         placement_count: usize,
         chosen: *mut u32,
+    ) -> u32;
+    pub(super) fn rectangle_pack_session_pack_fitting(
+        session: *mut RpSession,
+        collection: *const RpCollection,
+        heuristic: u32,
+        placements: *mut RpOutstanding,
+        placement_count: usize,
+        fitted: *mut RpFitted,
     ) -> u32;
     pub(super) fn rectangle_pack_session_release(session: *mut RpSession, number: u64) -> u32;
     pub(super) fn rectangle_pack_session_release_all(

@@ -1,5 +1,6 @@
 //! The lists that are kept on this side are those of C.
 use super::*;
+use crate::Group;
 
 fn rects(sizes: &[(u32, u32, u32)]) -> GroupedRectsToPlace<u32, u32> {
     let mut rects = GroupedRectsToPlace::new();
@@ -54,6 +55,24 @@ fn lists_that_are_kept_are_those_of_c() -> Result<(), SessionError> {
     }
     assert_eq!(session.outstanding().count(), 2);
     Ok(())
+}
+
+#[test]
+fn lists_that_are_kept_have_what_fits() -> Result<(), SessionError> {
+    let mut session = Session::new()?;
+    session.add_bin("sheet", TargetBin::new(10, 10, 1))?;
+    let squares = rects(&[(1, 6, 6), (2, 5, 5), (3, 4, 4)]);
+    // The square of the second entry is left.
+    session.pack_fitting(&squares, Heuristic::Volume)?;
+    let mut packed = vec![vec![0, u64::MAX, 1]];
+    check_lists(&session, &packed)?;
+    // Where the first square stood there is space for one of 5, and above it for the board, but for no square of 7.
+    session.release(0)?;
+    let more = rects(&[(2, 5, 5), (3, 7, 7), (4, 6, 3)]);
+    let fitted = session.pack_fitting(&more, Heuristic::Volume)?;
+    assert_eq!(fitted.left, [Group::Ungrouped(&3)]);
+    packed.push(vec![2, u64::MAX, 3]);
+    check_lists(&session, &packed)
 }
 
 #[test]
