@@ -1,11 +1,11 @@
 """Which sprites share a page: as few pages of the greatest size as can be found."""
 from __future__ import annotations
 
-from collections.abc import Callable, Iterator, Mapping, Sequence
+from collections.abc import Iterator, Mapping, Sequence
 from dataclasses import dataclass
-from typing import get_args
+from typing import Any, get_args
 
-from ... import AnyHeuristic, Bin, Box, Heuristic, NotEnoughBinSpace, pack
+from ... import AnyHeuristic, Bin, Box, Heuristic, Packing, Session, pack
 from .._common import NoRoom, progress
 from .rules import PageRules, Size, shown
 
@@ -14,21 +14,12 @@ __all__ = ["Boxes", "Page", "cells_of", "shared_out"]
 # Each by its index.
 Boxes = Mapping[int, Box]
 
-# Of boxes of depth 1 the depth is the same as the width.
-_TRIED: tuple[Heuristic, ...] = tuple(heuristic for heuristic in get_args(Heuristic) if heuristic != "depth")
+# After a group that does not fit a page, the next one to be tried there has fewer cells: of so many boxes fewer by all of them, of
+# half as many by half, and so on. So there are no more tries for many boxes than there is time for.
+_BOXES_FOR_ONE_TRY = 50_000
 
-# What each heuristic rates a box of depth 1 by. The library puts boxes that are alone in falling order. Those of a group go in
-# the order in which they are given, so they are given in this one.
-_RATES: Mapping[Heuristic, Callable[[Box], tuple[int, ...]]] = {
-    "volume": lambda box: (box.width * box.height,),
-    "height": lambda box: (box.height, box.width),
-    "width": lambda box: (box.width, box.height),
-    "depth": lambda box: (box.width, box.height),
-    "side-sum": lambda box: (box.width + box.height,),
-    "longest-side": lambda box: (max(box.width, box.height), min(box.width, box.height)),
-    "shortest-side": lambda box: (min(box.width, box.height), max(box.width, box.height)),
-    "side-area": lambda box: (box.height,),
-}
+# For so many numbers of pages that stay, all other boxes are packed at once.
+_TIMES_AT_ONCE = 16
 
 
 @dataclass(frozen=True)
@@ -44,141 +35,114 @@ def cells_of(boxes: Boxes) -> int:
 
 
 def _groups(boxes: Boxes) -> dict[object, dict[int, Box]]:
+    """The groups. Their boxes are alone here, since one page that takes a group may take its boxes in any order."""
     groups: dict[object, dict[int, Box]] = {}
     for index, box in boxes.items():
         if box.group is not None:
-            groups.setdefault(box.group, {})[index] = box
+            groups.setdefault(box.group, {})[index] = Box(box.width, box.height)
     return groups
 
 
-def _fit(groups: Sequence[Boxes], bin: Bin, heuristic: AnyHeuristic) -> bool:
-    """Whether one page takes all of these groups."""
-    boxes = {index: box for group in groups for index, box in group.items()}
-    if cells_of(boxes) > bin.width * bin.height:
-        return False
-    try:
-        pack([bin], [Box(*boxes[index][:2]) for index in sorted(boxes)], heuristic=heuristic)
-    except NotEnoughBinSpace:
-        return False
-    return True
-
-
-def _most(count: int, holds: Callable[[int], bool]) -> int:
-    """The greatest number from 1 to count of which this holds, if it holds of all below it; 0 for none. Found by halving."""
-    least, most = 0, count
-    while least < most:
-        middle = (least + most + 1) // 2
-        if holds(middle):
-            least = middle
-        else:
-            most = middle - 1
-    return least
-
-
-def _gathered(groups: Sequence[Boxes], bin: Bin, heuristic: Heuristic) -> list[Boxes]:
-    """Groups that one page takes, of groups by falling size: as many of the first as fit, and then, again and again, the
-    largest that fits of those that are smaller than the last one."""
-    def fits_among_first(count: int) -> bool:
-        return _fit(groups[:count], bin, heuristic)
-
-    def fits_from_end(count: int) -> bool:
-        return _fit([*chosen, rest[-count]], bin, heuristic)
-
-    first = _most(len(groups), fits_among_first)
-    chosen, rest = list(groups[:first]), groups[first:]
-    while True:
-        place = _most(len(rest), fits_from_end)
-        if place == 0:
-            return chosen
-        chosen.append(rest[-place])
-        rest = rest[len(rest) - place + 1:]
-
-
-def _packed(boxes: Boxes, bin: Bin, heuristic: Heuristic) -> list[Page]:
-    """All pages by a heuristic. Each group and each box that is alone goes onto the first page that takes it. There is a page
-    for each of them, so there are enough; and as none is begun before it is needed, more of them change nothing."""
-    rate = _RATES[heuristic]
-    ordered = dict(sorted(boxes.items(), key=lambda it: rate(it[1]), reverse=True))
-    count = len(_groups(boxes)) + sum(box.group is None for box in boxes.values())
+def _pages(*packings: Packing[int, Any]) -> list[Page]:
+    """The pages of packings into the same bins, by one heuristic."""
     pages: dict[int, dict[int, Size]] = {}
-    for it in pack([bin] * count, ordered, heuristic=heuristic):
+    for it in (it for packing in packings for it in packing):
         pages.setdefault(it.bin, {})[it.name] = (it.x, it.y)
-    return [Page(heuristic, pages[number]) for number in sorted(pages)]
-
-
-def _page_of_groups(boxes: Boxes, bin: Bin, heuristic: Heuristic) -> Page | None:
-    """A page with as many groups as are found for it, and with boxes that are alone in what is left there. None where this
-    heuristic gets no group onto a page."""
-    groups = sorted(_groups(boxes).values(), key=cells_of, reverse=True)
-    together = {index for group in _gathered(groups, bin, heuristic) for index in group}
-    if not together:
-        return None
-    # What was gathered is one group now, and what was not is left for other pages.
-    kept = {
-        index: box._replace(group=index in together or None)
-        for index, box in boxes.items() if index in together or box.group is None}
-    return next(page for page in _packed(kept, bin, heuristic) if together <= page.corners.keys())
+    return [Page(packings[0].heuristic, pages[number]) for number in sorted(pages)]
 
 
 class _Sharing:
-    """Pages that are full, what is left, and the fewest pages for all that were found so far.
+    """Boxes, and the pages that are filled by them one after the other. Of boxes that are rated alike the first goes first."""
 
-    Round by round each heuristic packs what is left, and of all first pages the one with the most cells is kept as full. While
-    there are groups, such a page is made of these. Then all that is left is packed, which gives pages for all as well."""
+    def __init__(self, boxes: Boxes, bin: Bin, heuristic: AnyHeuristic) -> None:
+        self._boxes, self._bin, self._heuristic = boxes, bin, heuristic
+        self._room = bin.width * bin.height
+        self._filled: list[Page] = []
 
-    def __init__(self, boxes: Boxes, bin: Bin, tried: Sequence[Heuristic]) -> None:
-        self._boxes, self._bin, self._tried = boxes, bin, tried
-        self._left = dict(boxes)
-        self._full: list[Page] = []
-        self._fewest: list[Page] = []
+    def fitting(self, boxes: Boxes, count: int = 1) -> Packing[int, Any]:
+        """What fits of these boxes onto so many pages."""
+        return pack([self._bin] * count, boxes, heuristic=self._heuristic, partial=True)
 
-    def pages(self) -> list[Page]:
-        for _ in progress(self._rounds(), len(self._boxes), "sharing"):
-            pass
-        return self._fewest
+    def refused(self) -> list[tuple[object, int]]:
+        """The groups that fit no page, and how many boxes each has."""
+        return [(group, len(members)) for group, members in _groups(self._boxes).items() if self.fitting(members).left]
 
-    def _rounds(self) -> Iterator[int]:
-        """Fills pages until there is no way to fewer of them. The boxes as they are placed."""
-        while self._left and (not self._fewest or self._least() < len(self._fewest)):
-            page = max(self._first_pages(), key=self._cells)
-            self._full.append(page)
+    def fill(self) -> Iterator[int]:
+        """Fills page after page, until no box is left. The boxes as they are placed."""
+        left = dict(self._boxes)
+        while left:
+            page = self._next_page(left)
+            self._filled.append(page)
             for index in page.corners:
-                del self._left[index]
+                del left[index]
             yield from page.corners
-        if not self._left:
-            self._compare(self._full)
 
-    def _least(self) -> int:
-        """How many pages there are at least, if those that are full are kept."""
-        return len(self._full) + -(-cells_of(self._left) // (self._bin.width * self._bin.height))
+    def _next_page(self, left: Boxes) -> Page:
+        """A page with as many groups as are found for it, and with boxes that are alone in what these leave."""
+        groups, alone = self._gathered(left), {index: box for index, box in left.items() if box.group is None}
+        if not groups:
+            return _pages(self.fitting(alone))[0]
+        tried = get_args(Heuristic) if self._heuristic == "best" else (self._heuristic,)
+        pages = [page for heuristic in tried for page in self._with_alone(groups, alone, heuristic)]
+        return max(pages, key=self._cells)
 
-    def _first_pages(self) -> list[Page]:
-        """The first page by each heuristic."""
-        if _groups(self._left):
-            pages = (_page_of_groups(self._left, self._bin, heuristic) for heuristic in self._tried)
-            return [page for page in pages if page is not None]
-        found = [_packed(self._left, self._bin, heuristic) for heuristic in self._tried]
-        for rest in found:
-            self._compare(self._full + rest)
-        return [rest[0] for rest in found]
+    def _gathered(self, left: Boxes) -> dict[int, Box]:
+        """Groups that one page takes: by falling size, each that fits with those before it."""
+        chosen: dict[int, Box] = {}
+        most = self._room
+        for group in sorted(_groups(left).values(), key=cells_of, reverse=True):
+            cells = cells_of(group)
+            if cells > most:
+                continue
+            if self.fitting({**chosen, **group}).left:
+                most = cells - 1 - cells * len(self._boxes) // _BOXES_FOR_ONE_TRY
+            else:
+                chosen.update(group)
+                most = self._room - cells_of(chosen)
+        return chosen
 
-    def _compare(self, pages: list[Page]) -> None:
-        """Keeps pages for all if they are fewer than those that were found before."""
-        if not self._fewest or self._use(pages) < self._use(self._fewest):
-            self._fewest = pages
+    def _with_alone(self, groups: Boxes, alone: Boxes, heuristic: Heuristic) -> list[Page]:
+        """The page of these groups, and of what fits beside them. None where this heuristic does not get them onto a page."""
+        with Session([self._bin]) as session:
+            packing = session.pack(groups, heuristic=heuristic, partial=True)
+            return [] if packing.left else _pages(packing, session.pack(alone, heuristic=heuristic, partial=True))
+
+    def fewest(self) -> list[Page]:
+        """The filled pages, or better ones, of which the first stay, and all other boxes are packed at once."""
+        best, left = self._filled, dict(self._boxes)
+        for kept, page in enumerate(self._filled):
+            count = len(best) - kept - 1
+            if cells_of(left) > count * self._room:
+                break
+            if kept % (len(self._filled) // _TIMES_AT_ONCE + 1) == 0:
+                packing = self.fitting(left, count)
+                last = self.fitting({it.name: left[it.name] for it in packing.left})
+                if not last.left:
+                    best = min(best, [*self._filled[:kept], *_pages(packing), *_pages(last)], key=self.use)
+            for index in page.corners:
+                del left[index]
+        return best
 
     def _cells(self, page: Page) -> int:
         return cells_of({index: self._boxes[index] for index in page.corners})
 
-    def _use(self, pages: Sequence[Page]) -> tuple[int, int]:
+    def use(self, pages: Sequence[Page]) -> tuple[int, int]:
         """How many pages, and how many cells are taken on the last one."""
         return len(pages), self._cells(pages[-1])
 
 
 def shared_out(boxes: Sequence[Box], rules: PageRules, heuristic: AnyHeuristic) -> list[Page]:
-    """The pages, each of the greatest size. Each box fits a page. Refuses a group that fits none."""
-    indexed, bin = dict(enumerate(boxes)), rules.bin(rules.most)
-    for group, members in _groups(indexed).items():
-        if not _fit([members], bin, heuristic):
-            raise NoRoom(f"the group {group!r} ({len(members)} sprites) fits no page of {shown(rules.most)}{rules.why_most}")
-    return _Sharing(indexed, bin, _TRIED if heuristic == "best" else (heuristic,)).pages()
+    """The pages, each of the greatest size. Each box fits a page. Refuses a group that fits none.
+
+    All is done in two orders, the given one and by falling sum of the sides, as either may need fewer pages."""
+    given, bin = dict(enumerate(boxes)), rules.bin(rules.most)
+    falling = dict(sorted(given.items(), key=lambda it: it[1].width + it[1].height, reverse=True))
+    sharings = [_Sharing(ordered, bin, heuristic) for ordered in (given, falling)]
+    takers = [sharing for sharing in sharings if not sharing.refused()]
+    if not takers:
+        group, count = sharings[0].refused()[0]
+        raise NoRoom(f"the group {group!r} ({count} sprites) fits no page of {shown(rules.most)}{rules.why_most}")
+    steps = (index for sharing in takers for index in sharing.fill())
+    for _ in progress(steps, len(takers) * len(boxes), "sharing"):
+        pass
+    return min((sharing.fewest() for sharing in takers), key=takers[0].use)
