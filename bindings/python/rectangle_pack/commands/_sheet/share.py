@@ -14,12 +14,12 @@ __all__ = ["Boxes", "Page", "cells_of", "shared_out"]
 # Each by its index.
 Boxes = Mapping[int, Box]
 
-# After a group that does not fit a page, the next one to be tried there has fewer cells: of so many boxes fewer by all of them, of
-# half as many by half, and so on. So there are no more tries for many boxes than there is time for.
+# After a group that does not fit a page, the next to be tried there is smaller by a part of its cells: the number of boxes in so
+# many. So for many boxes there are few tries, and for few boxes all groups are tried.
 _BOXES_FOR_ONE_TRY = 50_000
 
-# For so many numbers of pages that stay, all other boxes are packed at once.
-_TIMES_AT_ONCE = 16
+# All boxes but those on the first pages are packed at once for about so many numbers of first pages.
+_TIMES_AT_ONCE = 8
 
 
 @dataclass(frozen=True)
@@ -87,18 +87,24 @@ class _Sharing:
         return max(pages, key=self._cells)
 
     def _gathered(self, left: Boxes) -> dict[int, Box]:
-        """Groups that one page takes: by falling size, each that fits with those before it."""
+        """Groups that one page takes: the largest first, as many at a time as fit with those before them. At first all are tried,
+        after a failure half as many, and after a success twice as many."""
         chosen: dict[int, Box] = {}
-        most = self._room
-        for group in sorted(_groups(left).values(), key=cells_of, reverse=True):
-            cells = cells_of(group)
-            if cells > most:
-                continue
-            if self.fitting({**chosen, **group}).left:
-                most = cells - 1 - cells * len(self._boxes) // _BOXES_FOR_ONE_TRY
-            else:
-                chosen.update(group)
+        groups = _groups(left).values()
+        waiting = sorted(((cells_of(group), group) for group in groups), key=lambda it: it[0], reverse=True)
+        count, most = len(waiting), self._room
+        while waiting:
+            tried = waiting[:count]
+            together = {**chosen, **{index: box for _, group in tried for index, box in group.items()}}
+            if cells_of(together) <= self._room and not self.fitting(together).left:
+                chosen, waiting, count = together, waiting[count:], 2 * count
                 most = self._room - cells_of(chosen)
+            elif len(tried) > 1:
+                count = len(tried) // 2
+            else:
+                cells, count = waiting.pop(0)[0], 1
+                most = cells - 1 - cells * len(self._boxes) // _BOXES_FOR_ONE_TRY
+            waiting = [it for it in waiting if it[0] <= most]
         return chosen
 
     def _with_alone(self, groups: Boxes, alone: Boxes, heuristic: Heuristic) -> list[Page]:
