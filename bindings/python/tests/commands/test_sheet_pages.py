@@ -5,6 +5,7 @@ import random
 import time
 import unittest
 from collections.abc import Sequence
+from unittest.mock import patch
 
 try:
     from rectangle_pack import Bin, Box, pack
@@ -12,6 +13,7 @@ except OSError as why:
     raise unittest.SkipTest(f"the shared library is not there: {why}") from None
 
 from rectangle_pack.commands._common import NoRoom
+from rectangle_pack.commands._sheet import share
 from rectangle_pack.commands._sheet.rules import PageRules
 from rectangle_pack.commands._sheet.share import Page, shared_out
 
@@ -116,20 +118,27 @@ class Groups(unittest.TestCase):
 
 
 class Time(unittest.TestCase):
-    """The limits are many times what is needed. Where each sprite is tried beside each other one, they are not met."""
+    """2,000 tiny sprites, alone and in groups, on three pages: they have 24,152 cells, and two pages have 20,000."""
 
-    def took(self, boxes: Sequence[Box], rules: PageRules) -> float:
-        """Seconds of the processor."""
-        begin = time.process_time()
-        shared_out(boxes, rules, "best")
-        return time.process_time() - begin
-
-    def test_many_tiny_sprites(self) -> None:
+    def setUp(self) -> None:
         r = random.Random(6)
         sizes = [(r.randint(1, 6), r.randint(1, 6)) for _ in range(2000)]
-        for groups in (0, 50, 1000):
-            boxes = [Box(*size, group=number % groups if groups else None) for number, size in enumerate(sizes)]
-            self.assertLess(self.took(boxes, PageRules((100, 100))), 20, groups)
+        self.sets = [
+            [Box(*size, group=number % groups if groups else None) for number, size in enumerate(sizes)]
+            for groups in (0, 50, 1000)]
+
+    def test_seconds_of_the_processor(self) -> None:
+        for boxes in self.sets:
+            begin = time.process_time()
+            self.assertEqual(len(shared_out(boxes, PageRules((100, 100)), "best")), 3)
+            self.assertLess(time.process_time() - begin, 20)
+
+    def test_how_often_boxes_are_packed(self) -> None:
+        # If groups of two were tried one by one, a page that takes 300 of them would have its boxes packed 150 times in the mean.
+        for boxes in self.sets:
+            with patch.object(share, "pack", wraps=pack) as packed:
+                shared_out(boxes, PageRules((100, 100)), "best")
+            self.assertLess(sum(len(call.args[1]) for call in packed.call_args_list), 100 * len(boxes))
 
 
 if __name__ == "__main__":
