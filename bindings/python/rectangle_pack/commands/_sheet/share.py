@@ -80,8 +80,8 @@ class _Sharing:
     def _next_page(self, left: Boxes) -> Page:
         """A page with as many groups as are found for it, and with boxes that are alone in what these leave."""
         groups, alone = self._gathered(left), {index: box for index, box in left.items() if box.group is None}
-        if not groups:
-            return _pages(self.fitting(alone))[0]
+        if not groups or not alone:
+            return _pages(self.fitting(groups or alone))[0]
         tried = get_args(Heuristic) if self._heuristic == "best" else (self._heuristic,)
         pages = [page for heuristic in tried for page in self._with_alone(groups, alone, heuristic)]
         return max(pages, key=self._cells)
