@@ -636,9 +636,9 @@ uint32_t rectangle_pack_check(const rp_bin *bins, size_t bin_count, const rp_ent
 
 /* Straight cuts, each across the whole of its part, that part a bin into boxes that stand in it and what is free beside them,
    whoever put the boxes there: the steps of the plan go to an array, as those of rectangle_pack_session_cut_plan, and how many
-   they are. Boxes without cells do not count. RP_DONE; RP_SHORT_ARRAY; RP_NO_PLAN where no such cuts leave the boxes whole;
-   RP_WRONG_BOXES, and then wrong says which box is outside, or which two share a cell, by RP_WRONG_OUTSIDE or
-   RP_WRONG_SHARED_CELL and their indices; or RP_OUT_OF_MEMORY. Nothing else is written but for the first two.
+   they are. Boxes without cells have no part in it, but are to be inside too. RP_DONE; RP_SHORT_ARRAY; RP_NO_PLAN where no such
+   cuts leave the boxes whole; RP_WRONG_BOXES, and then wrong says which box is outside, or which two share a cell, by
+   RP_WRONG_OUTSIDE or RP_WRONG_SHARED_CELL and their indices; or RP_OUT_OF_MEMORY. Nothing else is written but for the first two.
 
    Proved, for all lists, wherever memory is refused:
    - RP_DONE: the plan parts the bin into the boxes and into free sections, each cut at the first place of the first axis that

@@ -503,8 +503,8 @@ inline std::optional<Fault> check(View<Bin> bins, View<Entry> entries, View<Clai
 }
 
 /// The straight cuts, each across a whole part, that part a bin into boxes that stand in it and what is free beside them, whoever
-/// put them there; nothing where no straight cuts leave the boxes whole. Boxes without cells do not count. Throws WrongBoxes where
-/// a box is outside the bin, or two share a cell.
+/// put them there; nothing where no straight cuts leave the boxes whole. Boxes without cells have no part in it. Throws WrongBoxes
+/// where a box is outside the bin, also one without cells, or two share a cell.
 inline std::optional<std::vector<CutStep>> straight_cuts(const Bin &bin, View<Section> boxes)
 {
     const auto call = [&bin, &boxes](auto... to) {

@@ -63,7 +63,8 @@ def straight_cuts(bin: Bin, boxes: Iterable[_Standing]) -> list[CutStep] | None:
     >>> straight_cuts(Bin(10, 10), [Section(0, 0, 0, 4, 10, 1)])
     [Cut(axis='x', place=4), Leaf(), Leaf()]
 
-    Boxes are sections, or placements, whose names, groups and bins do not count. Nor do boxes without cells.
+    Boxes are sections, or placements, whose names, groups and bins do not count. Boxes without cells have no part in it, but
+    are to be inside too.
 
     The steps are as those of Session.cut_plan. What is free is parted as Session.recut does it.
 

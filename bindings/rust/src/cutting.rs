@@ -39,7 +39,7 @@ impl Error for SectionsError {}
 
 /// The cutting plan of a bin in which these boxes stand, whoever put them there: straight cuts, each across a whole part, that part
 /// the bin into the boxes and what is free beside them; `None` where no straight cuts leave the boxes whole. Boxes without cells
-/// do not count.
+/// have no part in it, but are to be inside too.
 ///
 /// Each part that is cut is cut at the first place of the first axis that goes through no box and no free section. What is free is
 /// parted as [`Session::recut`](crate::Session::recut) does it.

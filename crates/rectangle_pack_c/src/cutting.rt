@@ -13,11 +13,11 @@ use std::alloc::Global;
 
 /// Writes the steps of the cutting plan of a bin in which these boxes stand, and how many they are:
 /// straight cuts, each across a whole part, that leave the boxes and what is free beside them.
-/// Boxes without cells do not count. `RP_DONE`; `RP_SHORT_ARRAY` where there are more steps than
-/// the array holds, and then only their number is written; `RP_NO_PLAN` where no such cuts leave
-/// the boxes, whatever is free; `RP_WRONG_BOXES` where a box is outside the bin, or two share a
-/// cell, and then only that is written to `wrong`; or `RP_OUT_OF_MEMORY`. But for the first two no
-/// step is written, nor how many there are.
+/// Boxes without cells have no part in it, but are to be inside too. `RP_DONE`; `RP_SHORT_ARRAY`
+/// where there are more steps than the array holds, and then only their number is written;
+/// `RP_NO_PLAN` where no such cuts leave the boxes, whatever is free; `RP_WRONG_BOXES` where a box
+/// is outside the bin, or two share a cell, and then only that is written to `wrong`; or
+/// `RP_OUT_OF_MEMORY`. But for the first two no step is written, nor how many there are.
 ///
 /// The time is about that of a sort of the boxes, but for boxes that were laid to defy it, which
 /// may take the square.
@@ -36,7 +36,7 @@ pub extern "C" fn rectangle_pack_straight_cuts(
     //   `Session::recut` parts it. [tell.count_is_the_length_of_the_array]
     // `RP_NO_PLAN`: the boxes are inside the bin and share no cell, and there are no free sections
     //   with which they are from straight cuts of it.
-    //   [rectangle_pack_straight_cuts.no_cuts_is_no_memory]
+    //   [rectangle_pack_straight_cuts.no_cuts_are_done]
     // `RP_WRONG_BOXES`: the first box that is outside is written, or, where none is, the first two
     //   that share a cell. [wrong_in.boxes_are_exchanged]
     // No other status is answered but `RP_OUT_OF_MEMORY`. But for what is said nothing is written.

@@ -25,7 +25,7 @@ pub struct StraightCuts<A: Allocator + Copy = Global> {
 
 /// How straight cuts, each across the whole of its part, part a bin of this size into these boxes,
 /// which stand in it, and what is free beside them; `None` where none do, whatever is left over.
-/// Boxes without cells do not count.
+/// Boxes without cells have no part in it, but are to be inside too.
 ///
 /// The error names the first box that is outside the bin; or, where none is, the first that shares
 /// a cell with an earlier one. Fails with `OutOfMemory` when memory is refused.

@@ -100,7 +100,8 @@ pub fn first_fault<A: Allocator + Copy>(
     //   first_twice.entry_may_be_placed_twice, alone_fault.wrong_size_is_told_as_outside]
     // Else the fault is that of the first claim that may not stand with those before it, or the
     //   first entry that no claim places. [later_first.first_group_alone_counts,
-    //   first_left.first_claim_is_passed_over, numbers_of.groups_get_one_number]
+    //   first_left.first_claim_is_passed_over, numbers_of.groups_get_one_number,
+    //   other_of.second_of_a_pair_is_not_excluded]
     ensures verdict { IfOk result (IsVerdict case.now claims.now) }
 {
     let numbers = numbers_of(alloc, case.entries)?;
