@@ -67,14 +67,12 @@ impl<A: Allocator + Copy> Job<A> {
     }
 }
 
-/// How long a search goes on.
+/// What a search goes by.
 #[derive(Debug, Clone, Copy)]
-pub struct Limits {
-    /// After so many tries it ends. A try packs some groups anew into some of the bins.
-    pub tries: u64,
+pub struct Aim {
     /// Equal seeds search alike.
     pub seed: u64,
-    /// Once no group is left and no more bins than this are used, it ends.
+    /// Once no group is left and no more bins than this are used, no more tries are made.
     pub enough: usize,
 }
 

@@ -4,7 +4,7 @@ mod beginning;
 mod choosing;
 
 use crate::chance::Chance;
-use crate::job::{Found, Job, Limits, Progress};
+use crate::job::{Aim, Found, Job, Progress};
 use crate::layout::Layout;
 use crate::order::{Noise, weight_of};
 use crate::score::{Score, WHOLE};
@@ -13,15 +13,18 @@ use crate::tries::Try;
 use rectangle_pack_bounds::turning::Turns;
 use rectangle_pack_sections::box_size_heuristics::Heuristic;
 use rectangle_pack_sections::width_height_depth::WidthHeightDepth;
-use std::alloc::{AllocError, Allocator};
+use std::alloc::{AllocError, Allocator, Global};
 use std::mem;
 
-/// A search on its way. Tries are made in batches: with the same bins and groups, until one is much
-/// better, or the batch is at its end; then the best of them is kept.
+/// A search on its way for a packing that leaves few cells, at a low cost, in few bins. What it finds
+/// says nothing of itself: it is to be packed as it is told.
+///
+/// Tries are made in batches: with the same bins and groups, until one is much better, or the batch is
+/// at its end; then the best of them is kept.
 #[derive(Drop)]
-pub(crate) struct Search<'j, A: Allocator + Copy> {
-    job: &'j Job<A>,
-    limits: Limits,
+pub struct Search<A: Allocator + Copy = Global> {
+    job: Job<A>,
+    aim: Aim,
     chance: Chance,
     layout: Layout<A>,
     // The bins and the groups of the batch.
@@ -42,47 +45,23 @@ pub(crate) struct Search<'j, A: Allocator + Copy> {
     found: bool,
     progress: Progress,
     may_turn: bool,
+    is_over: bool,
 }
 
-/// Searches for a packing that leaves few cells, at a low cost, in few bins. Before each try
-/// `go_on` is asked whether to go on. What is found says nothing of itself: it is to be packed as it
-/// is told. Fails only when memory is refused.
-pub fn few_bins<A: Allocator + Copy, F: FnMut(&Progress) -> bool>(
-    alloc: A,
-    job: &Job<A>,
-    limits: Limits,
-    mut go_on: F,
-) -> Result<Found<A>, AllocError>
-    requires callable { F.IsAlwaysCallable go_on }
-{
-    let mut search = Search::new(alloc, job, limits)?;
-    search.begin()?;
-    for _ in 0..limits.tries {
-        let goes_on = go_on(&search.progress);
-        if !goes_on || !search.step()? {
-            break;
-        }
-    }
-    search.end_batch()?;
-    Ok(Found {
-        puts: search.layout.puts(alloc)?,
-        sizes: Vec::from_slice(alloc, search.layout.sizes.as_slice())?,
-        tries: search.progress.tries,
-    })
-}
-
-impl<'j, A: Allocator + Copy> Search<'j, A> {
-    fn new(alloc: A, job: &'j Job<A>, limits: Limits) -> Result<Self, AllocError> {
-        let layout = Layout::new(alloc, job)?;
+impl<A: Allocator + Copy> Search<A> {
+    /// A search for such a packing. No try is made yet. Fails only when memory is refused.
+    pub fn new(alloc: A, job: Job<A>, aim: Aim) -> Result<Self, AllocError> {
+        let layout = Layout::new(alloc, &job)?;
         let mut tried = Try::new(alloc);
         tried.sizes.extend_from_slice(layout.sizes.as_slice())?;
         let mut best = Try::new(alloc);
         best.sizes.extend_from_slice(layout.sizes.as_slice())?;
-        let progress = layout.progress(job, 0);
-        Ok(Search {
+        let progress = layout.progress(&job, 0);
+        let may_turn = job.boxes.iter().any(|one| may_turn(one.turns));
+        let mut search = Search {
             job,
-            limits,
-            chance: Chance::new(limits.seed),
+            aim,
+            chance: Chance::new(aim.seed),
             layout,
             bins: Vec::new(alloc),
             pool: Vec::new(alloc),
@@ -96,17 +75,61 @@ impl<'j, A: Allocator + Copy> Search<'j, A> {
             best,
             found: false,
             progress,
-            may_turn: job.boxes.iter().any(|one| may_turn(one.turns)),
+            may_turn,
+            is_over: false,
+        };
+        search.begin()?;
+        Ok(search)
+    }
+
+    /// Makes so many tries, or fewer where there is nothing to be bettered. Before each `go_on` is
+    /// asked whether to go on. Tries that are made in several calls find what they find in one. Fails
+    /// only when memory is refused.
+    pub fn run<F: FnMut(&Progress) -> bool>(
+        &mut self,
+        tries: u64,
+        mut go_on: F,
+    ) -> Result<(), AllocError>
+        // The closure may be called at any time.
+        requires callable { F.IsAlwaysCallable go_on }
+    {
+        for _ in 0..tries {
+            if self.is_over || !go_on(&self.progress) {
+                break;
+            }
+            self.step()?;
+        }
+        Ok(())
+    }
+
+    /// How far the search is.
+    pub fn progress(&self) -> Progress {
+        self.progress
+    }
+
+    /// Whether the last call found that there is nothing to be bettered. Then no more tries are made.
+    pub fn is_over(&self) -> bool {
+        self.is_over
+    }
+
+    /// What is found. Fails only when memory is refused.
+    pub fn into_found(mut self, alloc: A) -> Result<Found<A>, AllocError> {
+        self.end_batch()?;
+        Ok(Found {
+            puts: self.layout.puts(alloc)?,
+            sizes: Vec::from_slice(alloc, self.layout.sizes.as_slice())?,
+            tries: self.progress.tries,
         })
     }
 
-    // Makes the next try, in the next batch where this one is at its end. Answers false where there
-    // is nothing to be bettered.
-    fn step(&mut self) -> Result<bool, AllocError> {
+    // Makes the next try, in the next batch where this one is at its end. Where there is nothing to be
+    // bettered, the search is over.
+    fn step(&mut self) -> Result<(), AllocError> {
         if self.rest == 0 {
             self.end_batch()?;
-            if self.is_over() || !self.begin_batch()? {
-                return Ok(false);
+            if self.is_reached() || !self.begin_batch()? {
+                self.is_over = true;
+                return Ok(());
             }
         }
         self.rest = self.rest.saturating_sub(1);
@@ -120,7 +143,7 @@ impl<'j, A: Allocator + Copy> Search<'j, A> {
         if is_made && self.tried.score.is_better(&self.best_score) {
             self.note_best(is_first);
         }
-        Ok(true)
+        Ok(())
     }
 
     // Notes the try that was made as the best one. Where a bin is saved, the batch ends, but for the
@@ -135,9 +158,9 @@ impl<'j, A: Allocator + Copy> Search<'j, A> {
         }
     }
 
-    // Whether no more tries are to be made.
-    fn is_over(&self) -> bool {
-        self.layout.left.is_empty() && self.layout.used.len() <= self.limits.enough
+    // Whether the packing is as good as it is to be.
+    fn is_reached(&self) -> bool {
+        self.layout.left.is_empty() && self.layout.used.len() <= self.aim.enough
     }
 
     // Begins a batch with some of the bins: what it finds has to be better than what stands there,
@@ -147,7 +170,9 @@ impl<'j, A: Allocator + Copy> Search<'j, A> {
         if self.bins.len() < 2 && self.from_left == 0 {
             return Ok(false);
         }
-        self.now = self.layout.score(self.job, self.bins.as_slice(), self.left);
+        self.now = self
+            .layout
+            .score(&self.job, self.bins.as_slice(), self.left);
         self.best_score = self.a_little_worse(self.now);
         self.rest = 8 + self.chance.below(25) as u64;
         Ok(true)
@@ -159,9 +184,8 @@ impl<'j, A: Allocator + Copy> Search<'j, A> {
             return Ok(());
         }
         self.found = false;
-        self.layout
-            .keep(self.job, self.bins.as_slice(), &self.best, self.from_left)?;
-        self.progress = self.layout.progress(self.job, self.progress.tries);
+        self.layout.keep(&self.job, self.bins.as_slice(), &self.best, self.from_left)?;
+        self.progress = self.layout.progress(&self.job, self.progress.tries);
         Ok(())
     }
 
@@ -186,7 +210,7 @@ impl<'j, A: Allocator + Copy> Search<'j, A> {
             self.order_by(heuristic, noise)?;
         }
         self.tried.heuristic = Heuristic::ALL[self.chance.below(8)];
-        self.tried.run(self.job, self.bins.as_slice(), self.left)
+        self.tried.run(&self.job, self.bins.as_slice(), self.left)
     }
 
     // Lays the boxes of the pool as they stand, or in a stance, and then some of them otherwise.
@@ -228,7 +252,7 @@ impl<'j, A: Allocator + Copy> Search<'j, A> {
     fn order_by(&mut self, heuristic: Heuristic, noise: Noise) -> Result<(), AllocError> {
         self.tried.order.clear();
         for group in &self.pool {
-            let weight = weight_of(heuristic, self.tried.boxes_of(self.job, *group));
+            let weight = weight_of(heuristic, self.tried.boxes_of(&self.job, *group));
             let heard = noise.heard(weight, &mut self.chance);
             self.tried.order.push((heard, *group))?;
         }

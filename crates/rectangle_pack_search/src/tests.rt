@@ -1,17 +1,20 @@
 //! Searches whose best end is known by hand.
 
-use crate::job::{Found, Job, Limits, OpenBin};
-use crate::search::few_bins;
+use crate::job::{Aim, Found, Job, OpenBin};
+use crate::search::Search;
 use rectangle_pack_bounds::turning::{TurningBox, Turns};
 use rectangle_pack_sections::width_height_depth::{WidthHeightDepth, any_size};
 use std::alloc::{AllocError, Global};
 use std::test::Fail;
 
-const LIMITS: Limits = Limits {
-    tries: 2000,
-    seed: 1,
-    enough: 0,
-};
+const AIM: Aim = Aim { seed: 1, enough: 0 };
+
+// What is found in so many tries.
+fn found_in(alloc: Global, job: Job<Global>, tries: u64) -> Result<Found<Global>, AllocError> {
+    let mut search = Search::new(alloc, job, AIM)?;
+    search.run(tries, |_| true)?;
+    search.into_found(alloc)
+}
 
 fn empty_job(alloc: Global) -> Job<Global> {
     Job {
@@ -98,7 +101,7 @@ fn four_squares_in_one(rt: HostRuntime) -> Result<(), Fail> {
     let boxes = [any_size(5, 5, 1); 4];
     let bins = [any_size(10, 10, 1); 4];
     let job = alone(rt.alloc(), &boxes, Turns::NONE, &bins)?;
-    let found = few_bins(rt.alloc(), &job, LIMITS, |_| true)?;
+    let found = found_in(rt.alloc(), job, 2000)?;
     assert!(rt; bins_used(&found, 4) == Some(1));
     Ok(())
 }
@@ -110,12 +113,11 @@ fn twenty_shelves_on_two_sheets(rt: HostRuntime) -> Result<(), Fail> {
     let boxes = [any_size(8032, 6032, 1); 20];
     let bins = [any_size(27832, 20532, 1); 3];
     let job = alone(rt.alloc(), &boxes, Turns::FLAT, &bins)?;
-    let limits = Limits {
-        tries: 20000,
-        seed: 1,
-        enough: 2,
-    };
-    let found = few_bins(rt.alloc(), &job, limits, |_| true)?;
+    let aim = Aim { seed: 1, enough: 2 };
+    let mut search = Search::new(rt.alloc(), job, aim)?;
+    search.run(20000, |_| true)?;
+    assert!(rt; search.is_over());
+    let found = search.into_found(rt.alloc())?;
     assert!(rt; bins_used(&found, 20) == Some(2));
     Ok(())
 }
@@ -131,7 +133,7 @@ fn excluded_groups_are_apart(rt: HostRuntime) -> Result<(), Fail> {
     )?;
     job.apart.push((0, 2))?;
     job.apart.push((2, 0))?;
-    let found = few_bins(rt.alloc(), &job, LIMITS, |_| true)?;
+    let found = found_in(rt.alloc(), job, 2000)?;
     assert!(rt; bins_used(&found, 3) == Some(2));
     assert!(rt; bin_of(&found, 0) != bin_of(&found, 2));
     Ok(())
@@ -147,7 +149,7 @@ fn groups_go_whole(rt: HostRuntime) -> Result<(), Fail> {
     for _ in 0..3 {
         add_bin(rt.alloc(), &mut job, any_size(10, 10, 1), 1)?;
     }
-    let found = few_bins(rt.alloc(), &job, LIMITS, |_| true)?;
+    let found = found_in(rt.alloc(), job, 2000)?;
     assert!(rt; bins_used(&found, 3) == Some(2));
     Ok(())
 }
@@ -159,11 +161,33 @@ fn cheap_bins_are_used(rt: HostRuntime) -> Result<(), Fail> {
     add_bin(rt.alloc(), &mut job, any_size(10, 5, 1), 10)?;
     add_bin(rt.alloc(), &mut job, any_size(5, 5, 1), 3)?;
     add_bin(rt.alloc(), &mut job, any_size(5, 5, 1), 3)?;
-    let found = few_bins(rt.alloc(), &job, LIMITS, |_| true)?;
+    let found = found_in(rt.alloc(), job, 2000)?;
     assert!(rt;
         (bin_of(&found, 0), bin_of(&found, 1)) == (Some(1), Some(2))
             || (bin_of(&found, 0), bin_of(&found, 1)) == (Some(2), Some(1))
     );
+    Ok(())
+}
+
+// The bin that is filled first is the smaller one; the other one costs less.
+#[test]
+fn one_bin_gives_way_to_a_cheaper_one(rt: HostRuntime) -> Result<(), Fail> {
+    let mut job = alone(rt.alloc(), &[any_size(5, 10, 1)], Turns::NONE, &[])?;
+    add_bin(rt.alloc(), &mut job, any_size(5, 10, 1), 5)?;
+    add_bin(rt.alloc(), &mut job, any_size(10, 10, 1), 1)?;
+    let found = found_in(rt.alloc(), job, 2000)?;
+    assert!(rt; bin_of(&found, 0) == Some(1));
+    Ok(())
+}
+
+// With one bin that is used and none that differs there is nothing to be bettered.
+#[test]
+fn a_search_without_another_bin_is_over(rt: HostRuntime) -> Result<(), Fail> {
+    let bins = [any_size(10, 10, 1); 3];
+    let job = alone(rt.alloc(), &[any_size(6, 6, 1)], Turns::NONE, &bins)?;
+    let mut search = Search::new(rt.alloc(), job, AIM)?;
+    search.run(2000, |_| true)?;
+    assert!(rt; search.is_over() && search.progress().tries == 64);
     Ok(())
 }
 
@@ -176,7 +200,7 @@ fn a_box_is_turned(rt: HostRuntime) -> Result<(), Fail> {
         Turns::FLAT,
         &[any_size(3, 9, 1)],
     )?;
-    let found = few_bins(rt.alloc(), &job, LIMITS, |_| true)?;
+    let found = found_in(rt.alloc(), job, 2000)?;
     assert!(rt; bin_of(&found, 0) == Some(0));
     assert!(rt; found.sizes.as_slice() == [any_size(2, 9, 1)].as_slice());
     Ok(())
@@ -192,46 +216,64 @@ fn a_search_is_stopped(rt: HostRuntime) -> Result<(), Fail> {
         &[any_size(10, 10, 1); 5],
     )?;
     let mut asked = 0u64;
-    let found = few_bins(rt.alloc(), &job, LIMITS, |_| {
+    let mut search = Search::new(rt.alloc(), job, AIM)?;
+    search.run(2000, |_| {
         asked = asked.saturating_add(1);
         asked < 3
     })?;
     assert!(rt; asked == 3);
+    assert!(rt; search.progress().tries == 2);
+    assert!(rt; !search.is_over());
+    let found = search.into_found(rt.alloc())?;
     assert!(rt; found.tries == 2);
     assert!(rt; bins_used(&found, 5) == Some(5));
     Ok(())
 }
 
-// Equal seeds search alike.
-#[test]
-fn equal_seeds_find_the_same(rt: HostRuntime) -> Result<(), Fail> {
+// Boxes that may be turned, and bins that hold some of them.
+fn turning(alloc: Global) -> Result<Job<Global>, AllocError> {
     let boxes = [
         any_size(7, 4, 1),
         any_size(4, 4, 1),
         any_size(3, 9, 1),
         any_size(6, 5, 1),
     ];
-    let job = alone(rt.alloc(), &boxes, Turns::FLAT, &[any_size(10, 10, 1); 4])?;
-    let one = few_bins(rt.alloc(), &job, LIMITS, |_| true)?;
-    let other = few_bins(rt.alloc(), &job, LIMITS, |_| true)?;
+    alone(alloc, &boxes, Turns::FLAT, &[any_size(10, 10, 1); 4])
+}
+
+// Equal seeds search alike.
+#[test]
+fn equal_seeds_find_the_same(rt: HostRuntime) -> Result<(), Fail> {
+    let one = found_in(rt.alloc(), turning(rt.alloc())?, 2000)?;
+    let other = found_in(rt.alloc(), turning(rt.alloc())?, 2000)?;
     assert!(rt; one.puts.as_slice() == other.puts.as_slice());
     assert!(rt; one.sizes.as_slice() == other.sizes.as_slice());
+    Ok(())
+}
+
+// Tries that are made in pieces find what they find in one go, also where a piece ends in the midst of
+// a batch.
+#[test]
+fn pieces_find_what_one_run_finds(rt: HostRuntime) -> Result<(), Fail> {
+    let whole = found_in(rt.alloc(), turning(rt.alloc())?, 700)?;
+    let mut search = Search::new(rt.alloc(), turning(rt.alloc())?, AIM)?;
+    for tries in [0, 1, 70, 129, 500] {
+        search.run(tries, |_| true)?;
+    }
+    let pieces = search.into_found(rt.alloc())?;
+    assert!(rt; pieces.tries == whole.tries);
+    assert!(rt; pieces.puts.as_slice() == whole.puts.as_slice());
+    assert!(rt; pieces.sizes.as_slice() == whole.sizes.as_slice());
     Ok(())
 }
 
 // As many tries are made as it may make, also within a batch.
 #[test]
 fn tries_are_counted(rt: HostRuntime) -> Result<(), Fail> {
-    let boxes = [any_size(6, 6, 1); 5];
-    let job = alone(rt.alloc(), &boxes, Turns::NONE, &[any_size(10, 10, 1); 5])?;
     for tries in [0, 1, 63, 64, 65, 100] {
-        let limits = Limits {
-            tries,
-            seed: 1,
-            enough: 0,
-        };
-        let found = few_bins(rt.alloc(), &job, limits, |_| true)?;
-        assert!(rt; found.tries == tries);
+        let boxes = [any_size(6, 6, 1); 5];
+        let job = alone(rt.alloc(), &boxes, Turns::NONE, &[any_size(10, 10, 1); 5])?;
+        assert!(rt; found_in(rt.alloc(), job, tries)?.tries == tries);
     }
     Ok(())
 }

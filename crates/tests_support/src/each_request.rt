@@ -54,7 +54,7 @@ where
     requires { F.IsAlwaysCallable run }
 {
     let mut refused = false;
-    for granted in 0..200u64 {
+    for granted in 0..1000u64 {
         let Ok(refusing) = A::new(alloc, granted) else {
             return Err(Fail::new("there is no memory for the counts"));
         };

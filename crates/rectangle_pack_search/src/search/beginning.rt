@@ -9,14 +9,14 @@ use std::alloc::{AllocError, Allocator};
 // In which stances boxes are laid at the beginning that may be turned.
 const STANCES: [Stance; 3] = [Stance::AsTheyStand, Stance::Lying, Stance::Standing];
 
-impl<A: Allocator + Copy> Search<'_, A> {
+impl<A: Allocator + Copy> Search<A> {
     // Begins with a batch of all groups and all bins, the smallest first: a try for each stance, each
     // order and each way to cut.
     pub(super) fn begin(&mut self) -> Result<(), AllocError> {
         for bin in 0..self.job.bins.len() {
             self.bins.push(bin)?;
         }
-        let job = self.job;
+        let job = &self.job;
         self.bins.sort_unstable_by_key(|bin| job.rank(*bin));
         self.pool.extend_from_slice(self.layout.left.as_slice())?;
         self.from_left = self.pool.len();
@@ -33,7 +33,7 @@ impl<A: Allocator + Copy> Search<'_, A> {
         self.lay_all(STANCES[(number / 64 % 3) as usize]);
         self.order_by(Heuristic::ALL[(number / 8 % 8) as usize], Noise::NONE)?;
         self.tried.heuristic = Heuristic::ALL[(number % 8) as usize];
-        self.tried.run(self.job, self.bins.as_slice(), self.left)
+        self.tried.run(&self.job, self.bins.as_slice(), self.left)
     }
 
     // Lays all boxes in a stance.

@@ -6,9 +6,10 @@ use std::alloc::{AllocError, Allocator};
 // At most so many of the groups that are left are tried at once.
 const FROM_LEFT: usize = 64;
 
-impl<A: Allocator + Copy> Search<'_, A> {
+impl<A: Allocator + Copy> Search<A> {
     // Chooses two to four bins that are used, one of them an emptier one, sometimes one that is not
-    // used; and the groups in them, with some of those that are left.
+    // used, and always where there would be fewer than two; and the groups in them, with some of those
+    // that are left.
     pub(super) fn choose(&mut self) -> Result<(), AllocError> {
         self.bins.clear();
         let few = (2 + self.chance.below(3)).min(self.layout.used.len());
@@ -20,7 +21,10 @@ impl<A: Allocator + Copy> Search<'_, A> {
                 self.add_used()?;
             }
         }
-        if self.chance.one_in(4) || self.bins.is_empty() {
+        let is_wanted = self.chance.one_in(4);
+        if self.bins.len() < 2 {
+            self.add_other()?;
+        } else if is_wanted {
             self.add_unused()?;
         }
         self.change_places();
@@ -70,17 +74,35 @@ impl<A: Allocator + Copy> Search<'_, A> {
         Ok(())
     }
 
-    // Adds a bin that is drawn, if it is not used, and other than each that is there.
+    // Whether a bin is not used, and other than each that is chosen.
+    fn is_other(&self, bin: usize) -> bool {
+        !self.layout.used.as_slice().contains(&bin)
+            && self.bins.iter().all(|chosen| self.job.differ(*chosen, bin))
+    }
+
+    // Adds a bin that is drawn, if it is not used, and other than each that is chosen.
     fn add_unused(&mut self) -> Result<(), AllocError> {
-        if self.job.bins.is_empty() {
-            return Ok(());
+        let count = self.job.bins.len();
+        if count > 0 {
+            let drawn = self.chance.below(count);
+            if self.is_other(drawn) {
+                self.bins.push(drawn)?;
+            }
         }
-        let job = self.job;
-        let drawn = self.chance.below(job.bins.len());
-        let is_used = self.layout.used.as_slice().contains(&drawn);
-        let differs = self.bins.iter().all(|bin| job.differ(*bin, drawn));
-        if differs && !is_used {
-            self.bins.push(drawn)?;
+        Ok(())
+    }
+
+    // Adds such a bin, if there is one: the one that is drawn, or the next one.
+    fn add_other(&mut self) -> Result<(), AllocError> {
+        let count = self.job.bins.len();
+        if count > 0 {
+            let drawn = self.chance.below(count);
+            let other = (drawn..count)
+                .chain(0..drawn)
+                .find(|bin| self.is_other(*bin));
+            if let Some(bin) = other {
+                self.bins.push(bin)?;
+            }
         }
         Ok(())
     }
