@@ -15,7 +15,8 @@ mod settling;
 
 use crate::bound::least_bins;
 use crate::searching::guess::best_guess;
-use crate::searching::proposal::propose;
+use crate::searching::job::job_of;
+use crate::searching::proposal::proposal_of;
 use crate::searching::settling::{Settled, rehearsal_of, settle};
 pub use answer::Searched;
 pub use options::SearchOptions;
@@ -23,7 +24,9 @@ use rectangle_pack_bins::target_bin::TargetBin;
 use rectangle_pack_groups::grouped_rects_to_place::GroupedRectsToPlace;
 use rectangle_pack_groups::grouped_rects_to_place::multimap::number_after;
 use rectangle_pack_packing::answer::{RectanglePackError, RectanglePackOk};
+use rectangle_pack_search::job::Aim;
 pub use rectangle_pack_search::job::Progress;
+pub use rectangle_pack_search::search::Search;
 use rectangle_pack_sections::box_size_heuristics::Heuristic;
 use rectangle_pack_sections::group::Group;
 use std::alloc::{AllocError, Allocator};
@@ -82,7 +85,121 @@ where
         options.now.costs.now.entries (bins_of target_bins.old.entries) result
         (bins_of target_bins.new.entries) }
 {
-    match find(alloc, rects_to_place, target_bins, options, go_on) {
+    let Ok(search) = search_whole(alloc, rects_to_place, target_bins, options, go_on) else {
+        return Err(RectanglePackError::OutOfMemory);
+    };
+    pack_rects_found(alloc, rects_to_place, target_bins, options, search)
+}
+
+/// A search that made the options' tries, or fewer where `go_on` ended it. Fails only when memory is
+/// refused.
+pub(crate) fn search_whole<Id, BinId, GroupId, A, F>(
+    alloc: A,
+    groups: &GroupedRectsToPlace<Id, GroupId, A>,
+    bins: &BTreeMap<BinId, TargetBin<A>, A>,
+    options: &SearchOptions<'_, Id, BinId, A>,
+    go_on: F,
+) -> Result<Search<A>, AllocError>
+where
+    Id: Ord + Clone + Drop,
+    BinId: Ord,
+    GroupId: Ord + Clone + Drop,
+    A: Allocator + Copy,
+    F: FnMut(&Progress) -> bool,
+    requires callable { F.IsAlwaysCallable go_on }
+{
+    let mut search = begin_search(alloc, groups, bins, options)?;
+    search.run(options.tries, go_on)?;
+    Ok(search)
+}
+
+/// Begins a search for such a packing. It is made in as many calls of `Search::run` as the caller
+/// likes, each of so many tries, and what it finds is packed by `pack_rects_found`. The options'
+/// `tries` do not count.
+///
+/// Nothing is promised of what it finds: what is promised of the packing holds whatever it is. Fails
+/// only when memory is refused.
+///
+/// ```
+/// let mut rects: GroupedRectsToPlace<u32, u32> = GroupedRectsToPlace::new(alloc);
+/// for id in 0..4 {
+///     rects.push_rect(id, None, RectToInsert::new(5, 5, 1))?;
+/// }
+/// let mut bins: BTreeMap<u32, TargetBin> = BTreeMap::new(alloc);
+/// for id in 0..4 {
+///     bins.insert(id, TargetBin::new(alloc, 10, 10, 1)?)?;
+/// }
+/// let (turns, costs) = (BTreeMap::new(alloc), BTreeMap::new(alloc));
+/// let options = SearchOptions {
+///     tries: 0,
+///     seed: 1,
+///     may_leave: false,
+///     turns: &turns,
+///     costs: &costs,
+/// };
+/// ```
+///
+/// It is looked at how far the search is, again and again.
+///
+/// ```
+/// let mut search = begin_search(alloc, &rects, &bins, &options)?;
+/// for _ in 0..10 {
+///     search.run(100, |_| true)?;
+/// }
+/// let found = pack_rects_found(alloc, &rects, &mut bins, &options, search)?;
+/// assert!(rt; found.is_optimal);
+/// ```
+pub fn begin_search<Id, BinId, GroupId, A>(
+    alloc: A,
+    rects_to_place: &GroupedRectsToPlace<Id, GroupId, A>,
+    target_bins: &BTreeMap<BinId, TargetBin<A>, A>,
+    options: &SearchOptions<'_, Id, BinId, A>,
+) -> Result<Search<A>, AllocError>
+where
+    Id: Ord + Clone + Drop,
+    BinId: Ord,
+    GroupId: Ord + Clone + Drop,
+    A: Allocator + Copy,
+{
+    let least = least_bins(alloc, rects_to_place, target_bins, options.turns)?;
+    let aim = Aim {
+        seed: options.seed,
+        enough: enough_bins(least, options),
+    };
+    let job = job_of(alloc, rects_to_place, target_bins, options)?;
+    Search::new(alloc, job, aim)
+}
+
+/// Packs what a search found, or the best that a heuristic finds where that is as good, and keeps it,
+/// as `pack_rects_searched` does. Where the search was begun with other groups, bins or options, what
+/// it found may be of no use; what is promised holds nevertheless.
+///
+/// The caller sees to it that clones of ids equal their originals.
+///
+/// `NotEnoughBinSpace` says that nothing may be left, the packing is refused with each heuristic, and
+/// what was found leaves groups or cannot be packed. `OutOfMemory` says that a growth or a clone was
+/// refused. On each error the bins are as they were.
+pub fn pack_rects_found<'a, Id, BinId, GroupId, A>(
+    alloc: A,
+    rects_to_place: &'a GroupedRectsToPlace<Id, GroupId, A>,
+    target_bins: &mut BTreeMap<BinId, TargetBin<A>, A>,
+    options: &SearchOptions<'_, Id, BinId, A>,
+    search: Search<A>,
+) -> Result<Searched<'a, RectanglePackOk<Id, BinId, A>, Group<GroupId, Id>, A>, RectanglePackError>
+where
+    Id: Ord + Clone + Drop,
+    BinId: Ord + Clone + Drop,
+    GroupId: Ord + Clone + Drop,
+    A: Allocator + Copy,
+    requires ids { ClonesEqual Id.is_clone Id.eq }
+    requires bin_ids { ClonesEqual BinId.is_clone BinId.eq }
+    // All that `answer` of `pack_rects_searched` says is so.
+    ensures answer { IsSearchAnswer ⟦<Group<GroupId, Id> as Ord>⟧.cmp Id.cmp BinId.cmp
+        rects_to_place.now options.now.turns.now.entries options.now.may_leave
+        options.now.costs.now.entries (bins_of target_bins.old.entries) result
+        (bins_of target_bins.new.entries) }
+{
+    match find(alloc, rects_to_place, target_bins, options, search) {
         Ok(Some(found)) => Ok(found),
         Ok(None) => Err(RectanglePackError::NotEnoughBinSpace),
         Err(_) => Err(RectanglePackError::OutOfMemory),
@@ -90,22 +207,20 @@ where
 }
 
 // The same: `None` where there is not enough space.
-fn find<'a, Id, BinId, GroupId, A, F>(
+fn find<'a, Id, BinId, GroupId, A>(
     alloc: A,
     groups: &'a GroupedRectsToPlace<Id, GroupId, A>,
     bins: &mut BTreeMap<BinId, TargetBin<A>, A>,
     options: &SearchOptions<'_, Id, BinId, A>,
-    go_on: F,
+    search: Search<A>,
 ) -> Result<Option<Searched<'a, RectanglePackOk<Id, BinId, A>, Group<GroupId, Id>, A>>, AllocError>
 where
     Id: Ord + Clone + Drop,
     BinId: Ord + Clone + Drop,
     GroupId: Ord + Clone + Drop,
     A: Allocator + Copy,
-    F: FnMut(&Progress) -> bool,
     requires ids { ClonesEqual Id.is_clone Id.eq }
     requires bin_ids { ClonesEqual BinId.is_clone BinId.eq }
-    requires callable { F.IsAlwaysCallable go_on }
     ensures { AreSearched ⟦<Group<GroupId, Id> as Ord>⟧.cmp Id.cmp BinId.cmp groups.now
         options.now.may_leave options.now.turns.now.entries options.now.costs.now.entries
         (bins_of bins.old.entries) result (bins_of bins.new.entries) }
@@ -113,8 +228,7 @@ where
     let least = least_bins(alloc, groups, bins, options.turns)?;
     let entries = number_after(0, groups.groups()).unwrap_or(u64::MAX) as usize;
     let guess = best_guess(alloc, groups, bins, entries, options, &Heuristic::ALL)?;
-    let enough = enough_bins(least, options);
-    let proposal = propose(alloc, groups, bins, options, enough, go_on)?;
+    let proposal = proposal_of(alloc, groups, bins, options.turns, search)?;
     let tries = proposal.tries;
     let found = rehearsal_of(alloc, groups, bins, entries, options, proposal)?;
     let Some(settled) = settle(alloc, groups, bins, options, guess, found)? else {

@@ -3,9 +3,10 @@
 
 use rectangle_pack::{
     BinSection, Case, Claim, Conflict, Entry, Fault, FitTests, Group, GroupedRectsToPlace,
-    Heuristic, RectToInsert, RectanglePackOk, TargetBin, TurningBox, Turns, WidthHeightDepth,
-    contains_smallest_box, first_fault, least_bins, pack_rects, pack_rects_best,
-    pack_rects_fitting, volume_heuristic, volume_packing_has_one_result,
+    Heuristic, RectToInsert, RectanglePackOk, SearchOptions, TargetBin, TurningBox, Turns,
+    WidthHeightDepth, begin_search, contains_smallest_box, first_fault, least_bins, pack_rects,
+    pack_rects_best, pack_rects_fitting, pack_rects_found, volume_heuristic,
+    volume_packing_has_one_result,
 };
 use std::alloc::{AllocError, Global};
 use std::collections::BTreeMap;
@@ -235,6 +236,34 @@ fn least_bins_counts(rt: HostRuntime) -> Result<(), Fail> {
     }
     let turns: BTreeMap<u32, Turns> = BTreeMap::new(alloc);
     assert_eq!(rt; least_bins(alloc, &rects, &bins, &turns)?, Some(3));
+    Ok(())
+}
+
+#[test]
+fn a_search_in_pieces(rt: HostRuntime) -> Result<(), Fail> {
+    let alloc = rt.alloc();
+    let mut rects: GroupedRectsToPlace<u32, u32> = GroupedRectsToPlace::new(alloc);
+    for id in 0..4 {
+        rects.push_rect(id, None, RectToInsert::new(5, 5, 1))?;
+    }
+    let mut bins: BTreeMap<u32, TargetBin> = BTreeMap::new(alloc);
+    for id in 0..4 {
+        bins.insert(id, TargetBin::new(alloc, 10, 10, 1)?)?;
+    }
+    let (turns, costs) = (BTreeMap::new(alloc), BTreeMap::new(alloc));
+    let options = SearchOptions {
+        tries: 0,
+        seed: 1,
+        may_leave: false,
+        turns: &turns,
+        costs: &costs,
+    };
+    let mut search = begin_search(alloc, &rects, &bins, &options)?;
+    for _ in 0..10 {
+        search.run(100, |_| true)?;
+    }
+    let found = pack_rects_found(alloc, &rects, &mut bins, &options, search)?;
+    assert!(rt; found.is_optimal);
     Ok(())
 }
 

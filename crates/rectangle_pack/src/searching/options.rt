@@ -7,8 +7,8 @@ use std::collections::BTreeMap;
 /// How a search goes on, and what it may do.
 #[derive(Drop)]
 pub struct SearchOptions<'t, Id: Ord, BinId: Ord, A: Allocator + Copy = Global> {
-    /// After so many tries it ends. A try packs the boxes of some bins anew; a million of them take
-    /// some seconds.
+    /// After so many tries `pack_rects_searched` ends. A try packs the boxes of some bins anew; a
+    /// million of them take some seconds.
     pub tries: u64,
     /// Equal seeds search alike.
     pub seed: u64,

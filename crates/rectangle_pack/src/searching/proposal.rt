@@ -6,14 +6,13 @@ ghost use Rattle.rectangle_pack_bounds.specs.Turning.{ways};
 ghost use Rattle.rectangle_pack.specs.NeededLaws.{AreWaysOf};
 
 use crate::bound::entries::box_of;
-use crate::searching::job::{entry_ids, job_of, names_of};
-use crate::searching::options::SearchOptions;
+use crate::searching::job::{entry_ids, names_of};
 use rectangle_pack_bins::target_bin::TargetBin;
 use rectangle_pack_bounds::turning::{TurningBox, Turns};
 use rectangle_pack_groups::grouped_rects_to_place::GroupedRectsToPlace;
 use rectangle_pack_packing::pack::told::Step;
-use rectangle_pack_search::job::{Limits, Progress, Put};
-use rectangle_pack_search::search::few_bins;
+use rectangle_pack_search::job::Put;
+use rectangle_pack_search::search::Search;
 use rectangle_pack_sections::group::Group;
 use rectangle_pack_sections::rect_to_insert::RectToInsert;
 use rectangle_pack_sections::width_height_depth::WidthHeightDepth;
@@ -31,37 +30,26 @@ pub(crate) struct Proposal<Id: Ord, GroupId, BinId, A: Allocator + Copy> {
     pub tries: u64,
 }
 
-/// Searches for few bins, and answers what is found, as steps. Each box stands in one of its ways.
-/// Where `enough` bins do, the search ends. Fails only when memory is refused.
-pub(crate) fn propose<Id, BinId, GroupId, A, F>(
+/// What a search found, as steps. Each box stands in one of its ways. Fails only when memory is refused.
+pub(crate) fn proposal_of<Id, BinId, GroupId, A>(
     alloc: A,
     groups: &GroupedRectsToPlace<Id, GroupId, A>,
     bins: &BTreeMap<BinId, TargetBin<A>, A>,
-    options: &SearchOptions<'_, Id, BinId, A>,
-    enough: usize,
-    go_on: F,
+    turns: &BTreeMap<Id, Turns, A>,
+    search: Search<A>,
 ) -> Result<Proposal<Id, GroupId, BinId, A>, AllocError>
 where
     Id: Ord + Clone + Drop,
     BinId: Ord + Clone + Drop,
     GroupId: Ord + Clone + Drop,
     A: Allocator + Copy,
-    F: FnMut(&Progress) -> bool,
     requires ids { ClonesEqual Id.is_clone Id.eq }
-    requires callable { F.IsAlwaysCallable go_on }
     ensures ways { IfOk result
-        (λ proposal.
-        AreWaysOf Id.cmp groups.now options.now.turns.now.entries proposal.sizes.entries) }
+        (λ proposal. AreWaysOf Id.cmp groups.now turns.now.entries proposal.sizes.entries) }
     ensures sized { IfOk result
         (λ proposal. MembersHaveSizes Id.cmp proposal.sizes.entries groups.now.groups) }
 {
-    let job = job_of(alloc, groups, bins, options)?;
-    let limits = Limits {
-        tries: options.tries,
-        seed: options.seed,
-        enough,
-    };
-    let found = few_bins(alloc, &job, limits, go_on)?;
+    let found = search.into_found(alloc)?;
     let entries = entry_ids(alloc, groups.groups())?;
     let places = places_by_id(alloc, entries.as_slice())?;
     let names = names_of(alloc, groups.groups())?;
@@ -73,13 +61,7 @@ where
             ids.as_slice(),
             found.puts.as_slice(),
         )?,
-        sizes: sizes_of(
-            alloc,
-            groups,
-            options.turns,
-            &places,
-            found.sizes.as_slice(),
-        )?,
+        sizes: sizes_of(alloc, groups, turns, &places, found.sizes.as_slice())?,
         tries: found.tries,
     })
 }

@@ -6,18 +6,18 @@ use Rattle.rectangle_pack_packing.specs.Fitting.{names_left}
 use Rattle.rectangle_pack_packing.specs.Placed.{placements_of}
 use Rattle.rectangle_pack.proofs.lemmas.session.Packing.{next-entries, next-fits}
 use Rattle.rectangle_pack.proofs.lemmas.session.Searched.{IsSession-found, found_few, kept_promised, no_bin_takes, searched_kept, searched_refused}
-use Rattle.rectangle_pack.proofs.session.Session.pack_searched.Given.{Over}
-use Rattle.rectangle_pack.proofs.session.Session.pack_searched.Goals.{After-into_placements-placements}
-use Rattle.rectangle_pack.proofs.session.Session.pack_searched.Goals.at as goal_at
-use Rattle.rectangle_pack.proofs.session.Session.pack_searched.Goals as goal
+use Rattle.rectangle_pack.proofs.session.Session.pack_found.Given.{Over}
+use Rattle.rectangle_pack.proofs.session.Session.pack_found.Goals.{After-into_placements-placements}
+use Rattle.rectangle_pack.proofs.session.Session.pack_found.Goals.at as goal_at
+use Rattle.rectangle_pack.proofs.session.Session.pack_found.Goals as goal
 
 -- at most as many placements are made as the groups have entries
 few : (g : Over) (c : After-into_placements-placements g) → length c.into_placements-placements.result.items ≤ entries_of c.args.groups.now
 few g c =
-    let found = rw c.in-Ok.is at c.pack_rects_searched.ensures.answer in
+    let found = rw c.in-Ok.is at c.pack_rects_found.ensures.answer in
     rw c.into_placements-placements.ensures (found_few (groups_total _ g.Id.Ord.cmp g.GroupId.Ord.cmp g.met.Id.Ord.total g.met.GroupId.Ord.total (λ a b. refl) (λ a b. refl) (λ a b. refl) (λ a b. refl))
     g.Id.Ord.cmp g.met.BinId.Ord.total c.args.groups.now c.args.options.now.turns.now.entries c.args.options.now.may_leave
-    c.args.options.now.costs.now.entries (bins_of c.self.inside.bins.entries) (bins_of c.pack_rects_searched.new.target_bins.entries)
+    c.args.options.now.costs.now.entries (bins_of c.self.inside.bins.entries) (bins_of c.pack_rects_found.new.target_bins.entries)
     (placements_of c.in-Ok.found.packed) (names_left c.in-Ok.found.left) found.0)
 
 pub number_all-requires-clause-room : goal.number_all-requires-clause-room
@@ -40,7 +40,7 @@ returns-in-Err-NotEnoughBinSpace-clause-packed g c =
     let none = rw c.in-Err-NotEnoughBinSpace.field-0-is at c.in-Err-NotEnoughBinSpace.ensures.answer in
     searched_refused (groups_total _ g.Id.Ord.cmp g.GroupId.Ord.cmp g.met.Id.Ord.total g.met.GroupId.Ord.total (λ a b. refl) (λ a b. refl) (λ a b. refl) (λ a b. refl))
     g.Id.Ord.cmp g.met.BinId.Ord.total c.args.groups.now c.args.options.now.turns.now.entries c.args.options.now.may_leave
-    c.args.options.now.costs.now.entries g.row.A.Denot (bins_of c.self.inside.bins.entries) (bins_of c.pack_rects_searched.new.target_bins.entries)
+    c.args.options.now.costs.now.entries g.row.A.Denot (bins_of c.self.inside.bins.entries) (bins_of c.pack_rects_found.new.target_bins.entries)
     c.self.inside.outstanding.items c.reserve.new.self.items c.self.inside.next c.args.self.now c.self.view_is
     (next-fits c.args.groups.now _ c.groups.ensures.entries c.self.inside.next c.in-Some.next c.in-Some.ensures (omega arith))
     c.in_ok-reserve.ensures.items none.0 none.1 none.2
@@ -54,7 +54,7 @@ returns-in-Err-NotEnoughBinSpace-clause-promise g c =
 
 pub invariant_of-self-2 : goal.invariant_of-self-2
 invariant_of-self-2 g c =
-    let found = rw c.in-Ok.is at c.pack_rects_searched.ensures.answer in
+    let found = rw c.in-Ok.is at c.pack_rects_found.ensures.answer in
     IsSession-found (groups_total _ g.Id.Ord.cmp g.GroupId.Ord.cmp g.met.Id.Ord.total g.met.GroupId.Ord.total (λ a b. refl) (λ a b. refl) (λ a b. refl) (λ a b. refl))
     g.Id.Ord.cmp g.met.BinId.Ord.total c.args.groups.now c.args.options.now.turns.now.entries c.args.options.now.may_leave
     c.args.options.now.costs.now.entries (bins_of c.self.inside.bins.entries) _ (placements_of c.in-Ok.found.packed) (names_left c.in-Ok.found.left)
@@ -64,7 +64,7 @@ invariant_of-self-2 g c =
 
 pub returns-clause-packed : goal.returns-clause-packed
 returns-clause-packed g c =
-    let found = rw c.in-Ok.is at c.pack_rects_searched.ensures.answer in
+    let found = rw c.in-Ok.is at c.pack_rects_found.ensures.answer in
     searched_kept (groups_total _ g.Id.Ord.cmp g.GroupId.Ord.cmp g.met.Id.Ord.total g.met.GroupId.Ord.total (λ a b. refl) (λ a b. refl) (λ a b. refl) (λ a b. refl))
     g.Id.Ord.cmp g.met.BinId.Ord.total c.args.groups.now c.args.options.now.turns.now.entries c.args.options.now.may_leave
     c.args.options.now.costs.now.entries (bins_of c.self.inside.bins.entries) _ c.self.inside.outstanding.items _ c.self.inside.next _ c.args.self.now
