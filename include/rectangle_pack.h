@@ -2,9 +2,10 @@
    of boxes and keeps nothing; rectangle_pack_collection packs boxes that are in several groups, groups that may not share a
    bin, and by a heuristic of the caller's choice. A session keeps its bins from call to call: boxes are packed into them and
    released again, and it can be saved. rectangle_pack_check judges a packing, whoever made it, and rectangle_pack_straight_cuts
-   finds the cuts that leave its boxes. All calls are proved; what is proved of them stands beside them, and as their contracts
-   in crates/rectangle_pack_c/src (lib.rt, fitting.rt, session.rt, placing.rt, upkeep.rt, reading.rt, restoring.rt, judging.rt
-   and cutting.rt). C99 and C++.
+   finds the cuts that leave its boxes. rectangle_pack_least_bins says how many bins are needed, whatever packer is taken, and
+   rectangle_pack_searched looks for a packing in few bins. All calls are proved; what is proved of them stands beside them, and as
+   their contracts in crates/rectangle_pack_c/src (lib.rt, fitting.rt, telling.rt, session.rt, placing.rt, upkeep.rt, reading.rt,
+   restoring.rt, judging.rt, cutting.rt, bounding.rt and searching.rt). C99 and C++.
 
    Sizes and corners are counted in cells. In two dimensions each depth is 1 and each z is 0. */
 #ifndef RECTANGLE_PACK_H
@@ -62,7 +63,7 @@ enum {
     RP_NO_PLAN = 9,
     /* There is no heuristic of this number. */
     RP_UNKNOWN_HEURISTIC = 10,
-    /* A member names a box that is not there. */
+    /* A member names a box that is not there, or a step a box or a member. */
     RP_UNKNOWN_BOX = 11,
     /* An exclusion names one group twice. */
     RP_EQUAL_GROUPS = 12,
@@ -79,7 +80,11 @@ enum {
     /* No session has these parts. */
     RP_WRONG_PARTS = 18,
     /* A box is outside the bin, or two share a cell. */
-    RP_WRONG_BOXES = 19
+    RP_WRONG_BOXES = 19,
+    /* A step of a packing as it is told cannot be done. Which is the first, and why, has been written. */
+    RP_STEP_REFUSED = 20,
+    /* The options have another size than rp_search_options. */
+    RP_UNKNOWN_OPTIONS = 21
 };
 
 /* Packs all boxes into the bins; placements[i] is where boxes[i] stands.
@@ -209,13 +214,58 @@ typedef struct rp_fitted {
    - The answer is one of these. Each of the last four comes exactly under its condition, where none before it comes.
    - RP_DONE: each box, and each member as a box in its group, that is not left stands inside its bin, and the bin is one of the
      list; no two of them share a cell of one bin; those of one group above 0 are all left, or all in one bin; those of groups that
-     are excluded are in different bins; and the placements are those of the packing rule.
+     are excluded are in different bins; and the placements are those of the packing rule. Equal bins and equal collections get
+     equal placements with the same heuristic, in every call, on every machine.
    - A group is left only where, at its turn, each bin is excluded for it or does not take all of its boxes.
    - With RP_BEST no other heuristic leaves fewer cells.
    - Where the answer is not RP_DONE nothing is written.
    Only tested, and what the caller sees to, is as of rectangle_pack_collection, with fitted for chosen. */
 uint32_t rectangle_pack_fitting(const rp_bin *bins, size_t bin_count, const rp_collection *collection, uint32_t heuristic,
                                 rp_placement *placements, size_t placement_count, rp_fitted *fitted);
+
+/* A step of a packing as it is told: a group goes whole into a bin. index names the group by any box of it, or, as box_count + j,
+   by its members[j]; a box of group 0 is alone. bin is an index in the list of bins, but in a session an id. heuristic is the
+   number of one, by which the rest of each free section is cut; RP_BEST is none. */
+typedef struct rp_step {
+    uint32_t index, bin, heuristic;
+} rp_step;
+
+/* The first step that is refused, by its index, and why. */
+typedef struct rp_refused {
+    size_t step;
+    uint32_t fault;
+} rp_refused;
+
+/* Why a step is refused: the first of these that is so. */
+enum {
+    /* There is no such bin. */
+    RP_STEP_UNKNOWN_BIN = 1,
+    /* An earlier step names the group. */
+    RP_STEP_NAMED_TWICE = 2,
+    /* A group that is excluded with this one went into the bin by an earlier step. */
+    RP_STEP_EXCLUDED = 3,
+    /* The bin, as the steps before left it, does not take all boxes of the group. */
+    RP_STEP_NO_ROOM = 4
+};
+
+/* Packs a collection into the bins as it is told: step by step, each group into the bin of its step. A step may come from anyone: a
+   person, an optimiser, a plan that was saved. Groups that no step names are left: of a box that is left, the placement has the
+   bin RP_LEFT_BIN and the corner (0, 0, 0). RP_DONE, RP_OUT_OF_MEMORY, or RP_STEP_REFUSED, and then refused has the first step
+   that cannot be done, and why; or, looked at first and in this order, RP_BAD_LENGTHS, RP_UNKNOWN_HEURISTIC, RP_UNKNOWN_BOX or
+   RP_EQUAL_GROUPS.
+
+   Proved, for all lists, wherever memory is refused:
+   - The answer is one of these. Each of the last four comes exactly under its condition, where none before it comes.
+   - RP_DONE: each box, and each member as a box in its group, whose group a step names stands inside the bin of that step, and
+     the others are left; no two that stand share a cell of one bin; those of one group above 0 are all left, or all in one bin;
+     and those of groups that are excluded are in different bins. Within its bin each box is placed as rectangle_pack_collection
+     places it there, by the heuristic of the step.
+   - RP_STEP_REFUSED: the steps before the one that is written can be done, and that one cannot, for the reason that is written.
+   - Where the answer is not RP_DONE no placement is written, and where it is not RP_STEP_REFUSED refused is not.
+   Only tested, and what the caller sees to, is as of rectangle_pack_collection, with refused for chosen, and with steps, to which
+   nobody writes. */
+uint32_t rectangle_pack_told(const rp_bin *bins, size_t bin_count, const rp_collection *collection, const rp_step *steps,
+                             size_t step_count, rp_placement *placements, size_t placement_count, rp_refused *refused);
 
 /* A session: bins that stay, and boxes that come and go, as in a texture atlas that is filled while a program runs.
 
@@ -357,6 +407,23 @@ uint32_t rectangle_pack_session_pack_collection(rp_session *session, const rp_co
 uint32_t rectangle_pack_session_pack_fitting(rp_session *session, const rp_collection *collection, uint32_t heuristic,
                                              rp_outstanding *placements, size_t placement_count, rp_fitted *fitted);
 
+/* Packs a collection into what is free in the bins as it is told, as rectangle_pack_told does it in bins of one call. Of a box that
+   is left, the placement has the number RP_LEFT_NUMBER, the bin RP_LEFT_BIN and the corner (0, 0, 0). RP_DONE, RP_OUT_OF_MEMORY,
+   after some 2^64 boxes RP_NUMBERS_USED_UP, or RP_STEP_REFUSED, and then refused has the first step that cannot be done, and why;
+   or, looked at first and in this order, RP_BAD_LENGTHS, RP_UNKNOWN_HEURISTIC, RP_UNKNOWN_BOX or RP_EQUAL_GROUPS.
+
+   Proved:
+   - RP_DONE: each box, and each member as a box in its group with the index box_count + j, is outstanding at its placement, in its
+     size, in the bin of the step that names its group, under a number of its own that was not given before; or no step names its
+     group, and it is left. Those of groups that are excluded are in different bins; and what was outstanding before stays where it
+     is.
+   - RP_STEP_REFUSED: the steps before the one that is written can be done, and that one cannot, for the reason that is written.
+   - RP_OUT_OF_MEMORY does not come where there are neither boxes nor exclusions.
+   - Where the answer is not RP_DONE no placement is written, and where it is not RP_STEP_REFUSED refused is not. */
+uint32_t rectangle_pack_session_pack_told(rp_session *session, const rp_collection *collection, const rp_step *steps,
+                                          size_t step_count, rp_outstanding *placements, size_t placement_count,
+                                          rp_refused *refused);
+
 /* Releases a placement by its number, which is not outstanding any more. Its cells are free again, as the newest free section
    of its bin, the last of the list; a box without cells leaves none. RP_DONE, RP_UNKNOWN_PLACEMENT or RP_OUT_OF_MEMORY. */
 uint32_t rectangle_pack_session_release(rp_session *session, uint64_t number);
@@ -483,6 +550,11 @@ uint32_t rectangle_pack_session_free_sections(rp_session *session, uint32_t bin,
 
 /* The outstanding placements of all bins, in the order of their numbers. RP_DONE or RP_SHORT_ARRAY. */
 uint32_t rectangle_pack_session_outstanding(rp_session *session, rp_standing *placements, size_t length, size_t *count);
+
+/* The outstanding placements of one bin, in the order of their numbers. RP_DONE, RP_SHORT_ARRAY or RP_UNKNOWN_BIN. It looks twice
+   at each outstanding placement of the session. */
+uint32_t rectangle_pack_session_outstanding_in(rp_session *session, uint32_t bin, rp_standing *placements, size_t length,
+                                               size_t *count);
 
 /* The cutting plan of a bin: straight cuts, each across a whole part, that leave its free sections and its boxes. RP_DONE,
    RP_SHORT_ARRAY, RP_NO_PLAN, RP_UNKNOWN_BIN or RP_OUT_OF_MEMORY.
@@ -634,6 +706,26 @@ uint32_t rectangle_pack_check(const rp_bin *bins, size_t bin_count, const rp_ent
                               const rp_exclusion *exclusions, size_t exclusion_count, const rp_claim *claims, size_t claim_count,
                               rp_fault *fault);
 
+/* Writes to least how many of the bins a collection needs at least, whatever packer places it. A packing here puts each box, and
+   each member as a box, inside a bin, so that no two share a cell of one bin, and those of groups that are excluded are in different
+   bins; boxes of one group may be in different bins. turns[i] says how box i may be turned, as the turns of rp_entry; a member is
+   turned as its box. A box behind the end of the list is not turned: a list of length 0 turns none. It is a lower bound: more bins
+   may be needed. RP_DONE; RP_NOT_ENOUGH_SPACE where it is shown that there is no packing at all; RP_OUT_OF_MEMORY; or, looked at
+   first and in this order, RP_BAD_LENGTHS where there are 2^32 bins or more, or boxes and members together, RP_UNKNOWN_BOX or
+   RP_EQUAL_GROUPS.
+
+   Proved, for all lists, wherever memory is refused:
+   - RP_DONE: each packing of these boxes into these bins, whoever made it, has boxes in at least so many bins. So a packing with no
+     more than that uses the fewest bins.
+   - RP_NOT_ENOUGH_SPACE: there is no packing of all of them into these bins.
+   - Each of the last three comes exactly under its condition, where none before it comes.
+   - Where the answer is not RP_DONE nothing is written.
+   A packing is what rectangle_pack_check finds no fault with, but that boxes of one group may be in different bins. Only tested,
+   and what the caller sees to, is as of rectangle_pack_collection, with least for chosen; turns too has as many entries as its
+   count says. */
+uint32_t rectangle_pack_least_bins(const rp_bin *bins, size_t bin_count, const rp_collection *collection, const uint32_t *turns,
+                                   size_t turn_count, size_t *least);
+
 /* Straight cuts, each across the whole of its part, that part a bin into boxes that stand in it and what is free beside them,
    whoever put the boxes there: the steps of the plan go to an array, as those of rectangle_pack_session_cut_plan, and how many
    they are. Boxes without cells have no part in it, but are to be inside too. RP_DONE; RP_SHORT_ARRAY; RP_NO_PLAN where no such
@@ -648,6 +740,152 @@ uint32_t rectangle_pack_check(const rp_bin *bins, size_t bin_count, const rp_ent
    Only tested, and what the caller sees to, is as of rectangle_pack_check, of steps, count and wrong too. */
 uint32_t rectangle_pack_straight_cuts(const rp_bin *bin, const rp_section *boxes, size_t box_count, rp_cut_step *steps,
                                       size_t length, size_t *count, rp_wrong *wrong);
+
+/* What it costs to use a bin: its index in the list of bins, but in a session its id; and the cost. */
+typedef struct rp_cost {
+    uint32_t bin;
+    uint64_t cost;
+} rp_cost;
+
+/* How a search goes on, and what it may do:
+       rp_search_options options = RP_SEARCH_OPTIONS(20000);
+   No pointer is NULL, also not that of an empty list. */
+typedef struct rp_search_options {
+    /* sizeof(rp_search_options), so that a later library knows which fields there are. */
+    size_t size;
+    /* After so many tries a search in one call ends. A try packs the boxes of some bins anew; a million take some seconds. */
+    uint64_t tries;
+    /* Equal seeds search alike. */
+    uint64_t seed;
+    /* 0: all is to be placed. Else groups that find no space may be left. */
+    uint32_t may_leave;
+    /* How each box may be turned, as rp_entry has it. A box behind the end of the list is not turned. A member is turned as its
+       box is. */
+    const uint32_t *turns;
+    size_t turn_count;
+    /* What bins cost. One that is not in the list costs 1; of several entries of a bin the first counts. */
+    const rp_cost *costs;
+    size_t cost_count;
+} rp_search_options;
+
+/* So many tries, with the seed 0; nothing may be left, no box is turned, and each bin costs 1. */
+#define RP_SEARCH_OPTIONS(tries)                                                                                           \
+    {                                                                                                                      \
+        sizeof(rp_search_options), (tries), 0, 0, (const uint32_t *)sizeof(uint32_t), 0, (const rp_cost *)sizeof(rp_cost), 0 \
+    }
+
+/* Where a box stands that may be turned: the index of its bin, or RP_LEFT_BIN, and its place there, in its size as it stands. */
+typedef struct rp_location {
+    uint32_t bin;
+    rp_section section;
+} rp_location;
+
+/* What a search found. */
+typedef struct rp_searched {
+    /* How many boxes and members are left, and how many bins have a box. */
+    size_t left, used;
+    /* No packer that places all boxes uses fewer bins than this; RP_NO_PACKING where none can place them. */
+    size_t least;
+    /* 1 where nothing is left and no more bins are used than are needed, else 0. */
+    uint32_t is_optimal;
+    /* How many tries were made. */
+    uint64_t tries;
+} rp_searched;
+
+#define RP_NO_PACKING ((size_t)UINT64_C(0xffffffffffffffff))
+
+/* Searches for a packing of a collection into the bins that is better than that of any heuristic: fewer cells are left, or as
+   many and the bins cost less, or as much and fewer bins are used, or as many and the last one has fewer cells. Of a box that is
+   left, the placement has the bin RP_LEFT_BIN, and all of its section is 0. RP_DONE; RP_NOT_ENOUGH_SPACE where nothing may be left
+   and no way was found; RP_OUT_OF_MEMORY; or, looked at first and in this order, RP_UNKNOWN_OPTIONS, RP_BAD_LENGTHS,
+   RP_UNKNOWN_BOX or RP_EQUAL_GROUPS.
+
+   Proved, for all lists, wherever memory is refused:
+   - The answer is one of these. Each of the last four comes exactly under its condition, where none before it comes.
+   - RP_DONE: each box, and each member as a box in its group, that is not left stands inside its bin, and the bin is one of the
+     list, in a size in which it may stand; no two of them share a cell of one bin; those of one group above 0 are all left, or
+     all in one bin; those of groups that are excluded are in different bins. Where nothing may be left, nothing is.
+   - No heuristic leaves fewer cells, or as many in bins that cost less, or as much with a better use of the bins.
+   - No packer that places all boxes, turned as they may be, with the groups that are excluded in different bins, uses fewer bins
+     than least. So where is_optimal is 1, no packer uses fewer.
+   - RP_NOT_ENOUGH_SPACE comes only where nothing may be left, and the packing rule gets stuck with each heuristic.
+   - Where the answer is not RP_DONE nothing is written.
+   Only tested: that equal calls get equal answers. What the caller sees to is as of rectangle_pack_collection, with searched for
+   chosen, and with the options and their lists. */
+uint32_t rectangle_pack_searched(const rp_bin *bins, size_t bin_count, const rp_collection *collection,
+                                 const rp_search_options *options, rp_location *placements, size_t placement_count,
+                                 rp_searched *searched);
+
+/* The same into what is free in the bins of a session. Of a box that is left, the placement has the number RP_LEFT_NUMBER, the
+   bin RP_LEFT_BIN, and 0 in all other places; of each other one the index is that of the box. For used, least and is_optimal it
+   does not count what stood in the bins before. RP_NUMBERS_USED_UP can come too, after some 2^64 boxes.
+
+   Proved: what rectangle_pack_searched says; and each box that is not left is outstanding at its placement, under a number of its
+   own that was not given before. What is not done leaves the session as it was. */
+uint32_t rectangle_pack_session_pack_searched(rp_session *session, const rp_collection *collection, const rp_search_options *options,
+                                              rp_standing *placements, size_t placement_count, rp_searched *searched);
+
+/* A search in pieces, for a program that shows how far it is, or stops it:
+
+       rp_search search = RP_NO_SEARCH;
+       rp_progress progress = {0};
+       rectangle_pack_search_begin(bins, bin_count, &collection, &options, &search);
+       while (!progress.is_over && progress.tries < 1000000) {
+           rectangle_pack_search_run(&search, 1000, &progress);
+           printf("%zu bins\n", progress.bins);
+       }
+       rectangle_pack_found(bins, bin_count, &collection, &options, &search, placements, placement_count, &searched);
+
+   Each of these calls answers a status, which is to be looked at. What the caller sees to for a session, he sees to for a search:
+   rectangle_pack_search_begin and rectangle_pack_session_search_begin get a handle that is as RP_NO_SEARCH makes it, and every
+   other call one that one of these two made with RP_DONE, and that has not been freed or ended since. */
+typedef struct rp_search {
+    /* The library's own. */
+    void *at;
+} rp_search;
+
+/* A handle without a search: rp_search search = RP_NO_SEARCH; */
+#define RP_NO_SEARCH {0}
+
+/* How far a search is: how many tries were made, the cells of what is left, what the bins cost that are used, how many these are,
+   and 1 where there is nothing to be bettered, so that no more tries are made. */
+typedef struct rp_progress {
+    uint64_t tries;
+    rp_volume left, cost;
+    size_t bins;
+    uint32_t is_over;
+} rp_progress;
+
+/* Begins a search for such a packing. No try is made yet. RP_DONE; RP_OUT_OF_MEMORY; or, looked at first and in this order,
+   RP_UNKNOWN_OPTIONS, RP_BAD_LENGTHS where there are 2^32 boxes and members or bins, or more, RP_UNKNOWN_BOX or RP_EQUAL_GROUPS.
+   But for RP_DONE the handle is as before. */
+uint32_t rectangle_pack_search_begin(const rp_bin *bins, size_t bin_count, const rp_collection *collection,
+                                     const rp_search_options *options, rp_search *search);
+
+/* The same for the bins of a session, as they are now. The session stays as it is. */
+uint32_t rectangle_pack_session_search_begin(rp_session *session, const rp_collection *collection, const rp_search_options *options,
+                                             rp_search *search);
+
+/* Makes so many tries, or fewer where there is nothing to be bettered, and writes how far the search is. Tries that are made in
+   several calls find what they find in one. RP_DONE; or RP_OUT_OF_MEMORY, and then the search is freed, and nothing is written. */
+uint32_t rectangle_pack_search_run(rp_search *search, uint64_t tries, rp_progress *progress);
+
+/* Frees a search that is not to be ended. The handle is then again as RP_NO_SEARCH makes it. */
+void rectangle_pack_search_free(rp_search *search);
+
+/* Packs what a search found, or what a heuristic finds where that is as good, into the bins that it was begun with, the collection
+   and the options the same too. Where they are not, what it found may be of no use; what is proved holds nevertheless. The tries
+   of the options do not count. What is answered, written and proved is as of rectangle_pack_searched. The handle has no search
+   afterwards, whatever is answered. */
+uint32_t rectangle_pack_found(const rp_bin *bins, size_t bin_count, const rp_collection *collection,
+                              const rp_search_options *options, rp_search *search, rp_location *placements,
+                              size_t placement_count, rp_searched *searched);
+
+/* The same into the bins of the session, as rectangle_pack_session_pack_searched does it, with a search that was begun for it. Where
+   the session has changed since, what was found may be of no use. */
+uint32_t rectangle_pack_session_pack_found(rp_session *session, const rp_collection *collection, const rp_search_options *options,
+                                           rp_search *search, rp_standing *placements, size_t placement_count,
+                                           rp_searched *searched);
 
 #ifdef __cplusplus
 }

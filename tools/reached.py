@@ -123,6 +123,13 @@ class Copy:
             self.leave_out(path, names)
         self.crates = [name for name in below if CRATES / name not in self.gone]
         self.files = [it for it in files if not self.is_gone(it)]
+        # The names that items of each crate have which stay: there they are not those that go.
+        self.kept: dict[pathlib.Path, set[str]] = {}
+        for path, items in self.items.items():
+            if not self.is_gone(path):
+                left = self.left_out.get(path, [])
+                plain = [it for it in all_items(items) if not it.around and it.item.kind not in ("impl", "use", "mod")]
+                self.kept.setdefault(crate_of(path), set()).update(it.name for it in plain if it.name not in left)
 
     def refuse(self, names: Iterable[str]) -> None:
         if left := [*names]:
@@ -173,15 +180,15 @@ class Copy:
             if declares or found.name in self.left_out.get(path, []):
                 take_out(item, lines)
             elif item.kind == "use":
-                self.edit_use(item, lines)
+                self.edit_use(item, self.names - self.kept.get(crate_of(path), set()), lines)
             elif item.kind == "mod" and item.has_body:
                 self.edit(path, item.items, lines)
 
-    def edit_use(self, item: Item, lines: list[str | None]) -> None:
+    def edit_use(self, item: Item, gone: set[str], lines: list[str | None]) -> None:
         """Takes the names of items that are gone out of a `use`."""
         head, _, tree = " ".join(it.strip() for it in item.lines).partition("use ")
         paths = paths_of(tree)
-        left = [it for it in paths if it[-1].partition(" as ")[0] not in self.names]
+        left = [it for it in paths if it[-1].partition(" as ")[0] not in gone]
         if left != paths:
             indent = item.lines[0][: len(item.lines[0]) - len(item.lines[0].lstrip())]
             take_out(item, lines)

@@ -161,7 +161,7 @@ one_answer bins boxes exclusions h all other one two =
     (λ a b r says. (says.0.small, says.1.small)) (λ a b r says. says.2)))
 
 -- lists with the same entries are the same
-same_lists : {X : Type 0} (xs ys : List X) → length xs ≡ length ys → ((i : ℕ) (d : X) → i < length xs → get_or xs i d ≡ get_or ys i d) → xs ≡ ys
+pub same_lists : {X : Type 0} (xs ys : List X) → length xs ≡ length ys → ((i : ℕ) (d : X) → i < length xs → get_or xs i d ≡ get_or ys i d) → xs ≡ ys
 same_lists [] [] long each = refl
 same_lists [] (y ∷ ys) long each = absurd (omega arith)
 same_lists (x ∷ xs) [] long each = absurd (omega arith)
@@ -201,7 +201,7 @@ never_both bins boxes exclusions heuristic placements h r =
     (one_answer bins boxes exclusions heuristic h.all r.all h.collected r.collected).not_done_and_refused h.made h.left r.refused.left h.done r.refused.refused
 
 -- two places of a list are one, or the first is before the second, or behind it
-two_places : {X : Type 0} (xs : List X) (x : X) (ys us : List X) (v : X) (vs : List X) → xs ++ x ∷ ys ≡ us ++ v ∷ vs
+pub two_places : {X : Type 0} (xs : List X) (x : X) (ys us : List X) (v : X) (vs : List X) → xs ++ x ∷ ys ≡ us ++ v ∷ vs
     → (x ≡ v) ⊎ ((Contains us x × Contains ys v) ⊎ (Contains xs v × Contains vs x))
 two_places [] x ys [] v vs same = inl cc
 two_places [] x ys (u ∷ us) v vs same =

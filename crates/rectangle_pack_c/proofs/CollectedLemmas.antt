@@ -2,7 +2,7 @@
 use Rattle.rectangle_pack_c.proofs.Std.{◌≡◌, ◌≢◌, ℕ, ◌+◌, ◌<◌, ◌≤◌, ◌==◌, Bool, true, false, cond, List, [], ◌∷◌, ◌++◌, length, get_or, refl, ap, sym, ◌∙◌}
 use Rattle.rectangle_pack_c.proofs.Std.{subst, arith, suc, zero, append-nil, Option, Some, None, All, AllPairs, Contains, IsSomeAnd, unwrap_or, slice_get, map}
 use Rattle.rectangle_pack_c.proofs.Std.{filter, AllZip, enumerate_from, IsStrictlySortedBy, option_map, Equal, nat_cmp_is, nat_cmp, is_eq, lookup}
-use Rattle.rectangle_pack_c.proofs.Std.{keys_of, is_at, insert_entry, exact_unsigned, map-append, length-map, get_or_default, length-enumerate_from}
+use Rattle.rectangle_pack_c.proofs.Std.{keys_of, is_at, insert_entry, exact_unsigned, Ordering, map-append, length-map, get_or_default, length-enumerate_from}
 use Rattle.rectangle_pack_c.proofs.Std.{get_or-enumerate_from, AllPairs-cons, All-nil, All-cons, All-weaker, All-head, Contains-get_or, filter-append}
 use Rattle.rectangle_pack_c.proofs.Std.{slice_get-map, slice_get-get_or, ◌||◌, ◌&&◌, list_any, list_any-append, or-false}
 use Rattle.rectangle_pack.specs.declared.grouped_rects_to_place.Group.{Group}
@@ -313,7 +313,7 @@ same_entries (x ∷ xs) (y ∷ ys) h =
     let first : x ≡ y = ap (λ k. (k, x.1)) key ∙ ap (λ l. (y.0, l)) h.0.1 in
     ap (λ z. z ∷ xs) first ∙ ap (λ zs. y ∷ zs) (same_entries xs ys h.1)
 
-same_groups : (boxes : List RpBox) (exclusions : List RpExclusion) (all other : Collection ℕ ℕ) → IsCollected boxes exclusions all
+pub same_groups : (boxes : List RpBox) (exclusions : List RpExclusion) (all other : Collection ℕ ℕ) → IsCollected boxes exclusions all
     → IsCollected boxes exclusions other → all.groups ≡ other.groups
 same_groups boxes exclusions all other h g = same_entries all.groups other.groups
     (maps_alike group_order group_order_total (λ x y. x ≡ y) all.groups other.groups h.ascend g.ascend
@@ -322,6 +322,16 @@ same_groups boxes exclusions all other h g = same_entries all.groups other.group
     options_same : (o : Option (List ℕ)) → AreOptionsAlike (λ x y. x ≡ y) o o
     options_same None = tt
     options_same (Some ids) = refl
+
+-- and the same bins are excluded
+pub same_excludes : (bin_cmp : ℕ → ℕ → Ordering) (boxes : List RpBox) (exclusions : List RpExclusion) (all other : Collection ℕ ℕ)
+    → IsCollected boxes exclusions all → IsCollected boxes exclusions other
+    → excludes_by group_order bin_cmp all.partners ≡ excludes_by group_order bin_cmp other.partners
+same_excludes bin_cmp boxes exclusions all other h g = ap (λ (are : Group ℕ ℕ → Group ℕ ℕ → Bool). λ (homes : List (Group ℕ ℕ × ℕ)) (group : Group ℕ ℕ) (id : ℕ).
+    list_any (λ home. are group home.0 && is_at (bin_cmp id) home.1) homes) pairs
+  where
+    pairs : are_excluded group_order all.partners ≡ are_excluded group_order other.partners
+    pairs = fun_ext (λ a. fun_ext (λ b. h.excluded a b ∙ sym (g.excluded a b)))
 
 pub done_again : (rules : Rules ℕ ℕ) (boxes : List RpBox) (exclusions : List RpExclusion) (all other : Collection ℕ ℕ)
     → IsCollected boxes exclusions all → IsCollected boxes exclusions other
@@ -337,7 +347,7 @@ done_again rules boxes exclusions all other h g old new placements done = record
   homes = done.homes;
   tests = done.tests;
   placed = subst (λ excludes. AreAllPlaced rules excludes (map (λ o. o.1) done.bin_order) done.groups (at_start old) placements
-      (record { bins = new; homes = done.homes }) done.tests) excluded done.placed;
+      (record { bins = new; homes = done.homes }) done.tests) (same_excludes rules.bin_cmp boxes exclusions all other h g) done.placed;
 }
   where
     sizes : all.sizes ≡ other.sizes
@@ -345,10 +355,3 @@ done_again rules boxes exclusions all other h g old new placements done = record
 
     groups : all.groups ≡ other.groups
     groups = same_groups boxes exclusions all other h g
-
-    pairs : are_excluded group_order all.partners ≡ are_excluded group_order other.partners
-    pairs = fun_ext (λ a. fun_ext (λ b. h.excluded a b ∙ sym (g.excluded a b)))
-
-    excluded : excludes_by group_order rules.bin_cmp all.partners ≡ excludes_by group_order rules.bin_cmp other.partners
-    excluded = ap (λ (are : Group ℕ ℕ → Group ℕ ℕ → Bool). λ (homes : List (Group ℕ ℕ × ℕ)) (group : Group ℕ ℕ) (id : ℕ).
-        list_any (λ home. are group home.0 && is_at (rules.bin_cmp id) home.1) homes) pairs

@@ -10,7 +10,7 @@ use Rattle.rectangle_pack_c.specs.Collections.{all_boxes, fault_of, are_as_many,
 use Rattle.rectangle_pack_c.specs.Heuristics.{asked, all_heuristics}
 
 -- a status that is 0 is not the one that a test gives
-past : (t : Bool) (status rest : ℕ) → status ≢ 0 → cond t status rest ≡ 0 → (t ≡ false) × (rest ≡ 0)
+pub past : (t : Bool) (status rest : ℕ) → status ≢ 0 → cond t status rest ≡ 0 → (t ≡ false) × (rest ≡ 0)
 past true status rest some e = absurd (some e)
 past false status rest some e = (refl, e)
 

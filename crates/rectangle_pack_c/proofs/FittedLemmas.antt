@@ -1,5 +1,6 @@
 -- What a session's answer to a packing of what fits says of the lists of a C caller.
 use Rattle.rectangle_pack_c.proofs.Std.{◌≡◌, ◌≢◌, ◌⊎◌, inl, inr, ℕ, ◌<◌, ◌≤◌, ◌^◌, ◌==◌, Bool, true, false, cond, List, ◌++◌, length, refl, ap, sym, ◌∙◌, subst, arith}
+use Rattle.rectangle_pack_c.proofs.Std.{IsPermutation, keys_of}
 use Rattle.rectangle_pack_c.proofs.Std.{All, AllPairs, Contains, IsSomeAnd, Some, map, slice_get, option_map, nat_cmp, Ordering, Result, nat_tests, list_any, nat_le, not}
 use Rattle.rectangle_pack_c.proofs.Std.{All-weaker, All-contains, Contains-append_right, length-map, slice_get-map, slice_get_within}
 use Rattle.std.proofs.Common.{Err, count_by}
@@ -19,8 +20,9 @@ use Rattle.rectangle_pack.specs.declared.session.command.SessionError.TheVariant
 use Rattle.rectangle_pack.specs.Best.{named_rules}
 use Rattle.rectangle_pack.specs.Boxes.{AreApart, IsInside}
 use Rattle.rectangle_pack.specs.Groups.{Collection}
+use Rattle.rectangle_pack.specs.Placed.{ArePlacedWhole}
 use Rattle.rectangle_pack.specs.Heuristics.{named_answers}
-use Rattle.rectangle_pack.specs.Packing.{Stage, rules_by, at_start, excludes_by}
+use Rattle.rectangle_pack.specs.Packing.{AreKeptApart, Stage, rules_by, at_start, excludes_by}
 use Rattle.rectangle_pack.specs.Session.{State, IsSession, numbered}
 use Rattle.rectangle_pack.specs.SessionFitting.{PacksFittingBest, FitsBestAsPromised, PlacesWhatFits}
 use Rattle.rectangle_pack_c.specs.declared.RpBin.{RpBin}
@@ -88,9 +90,30 @@ no_space_fault c heuristic places =
 named_group : (i : ℕ) (b : RpBox) → 0 < b.group → group_of i b ≡ Grouped b.group
 named_group i b named = let not_alone : (b.group == 0) ≡ false = grind (arith, nat_tests) in rw not_alone refl
 
--- what is written of what fits
-module _ (boxes : List RpBox) (exclusions : List RpExclusion) (all : Collection ℕ ℕ) (collected : IsCollected boxes exclusions all) (best : Heuristic)
-    (left : List (Group ℕ ℕ)) (old new : State ℕ ℕ) (made : PlacesWhatFits group_order (named_rules nat_cmp nat_cmp best) all old left new) where
+-- what a session keeps of a packing that leaves these groups: each other group has a home. The placements are those of one home after another,
+-- behind what was outstanding
+pub record IsKept (all : Collection ℕ ℕ) (left : List (Group ℕ ℕ)) (old new : State ℕ ℕ) : Type 0 where
+  pub placements : List (Placement ℕ ℕ)
+  pub outstanding : new.outstanding ≡ old.outstanding ++ numbered old.next placements
+  pub homes : List (Group ℕ ℕ × ℕ)
+  pub groups : IsPermutation (keys_of all.groups) (map (λ h. h.0) homes ++ left)
+  pub whole : ArePlacedWhole nat_cmp nat_cmp group_order all.sizes all.groups homes placements
+  pub apart : AreKeptApart group_order nat_cmp all.partners homes
+
+abbrev pub kept_fitting : (best : Heuristic) (all : Collection ℕ ℕ) (left : List (Group ℕ ℕ)) (old new : State ℕ ℕ)
+    → PlacesWhatFits group_order (named_rules nat_cmp nat_cmp best) all old left new → IsKept all left old new
+kept_fitting best all left old new made = record {
+  placements = made.placements;
+  outstanding = made.outstanding;
+  homes = made.homes;
+  groups = made.groups;
+  whole = made.whole;
+  apart = made.apart;
+}
+
+-- what is written of what is kept
+module _ (boxes : List RpBox) (exclusions : List RpExclusion) (all : Collection ℕ ℕ) (collected : IsCollected boxes exclusions all)
+    (left : List (Group ℕ ℕ)) (old new : State ℕ ℕ) (made : IsKept all left old new) where
   abbrev pub fit_records : List (Outstanding ℕ ℕ)
   fit_records = numbered old.next made.placements
 
@@ -104,6 +127,12 @@ module _ (boxes : List RpBox) (exclusions : List RpExclusion) (all : Collection 
 
   pub fit_once : AllPairs (λ r s. r.id ≢ s.id) fit_records
   fit_once = records_once old.next made.placements (fitted_once boxes exclusions all collected made.homes left made.groups made.placements made.whole)
+
+  -- what is written of the records that the session has beyond those of before is written of these
+  pub at_end : {left_so : RpOutstanding} (outs : List RpOutstanding) → NewAreWrittenAmong as_outstanding left_so old new outs
+      → AreWrittenAmong as_outstanding left_so fit_records outs
+  at_end {left_so} outs written = subst (λ rs. AreWrittenAmong as_outstanding left_so rs outs)
+      (new_entries old.outstanding fit_records new.outstanding fit_records_are) written
 
   abbrev lost : List (Placement ℕ ℕ)
   lost = lost_boxes boxes all left
@@ -216,31 +245,32 @@ module _ (boxes : List RpBox) (exclusions : List RpExclusion) (all : Collection 
             absurd (g.taken (subst (λ k. Contains left k) one l.group))
         groups i j a b p q s t named same (inr l) (inr m) is = lost_number j b q t m
 
--- the same of a packing whose answer is known
+-- the same of a packing of what fits whose answer is known
 module _ (heuristic : ℕ) (boxes : List RpBox) (exclusions : List RpExclusion) (chosen : ℕ) (old new : State ℕ ℕ)
     (fits : FitsCollection heuristic boxes exclusions chosen old new) (outs : List RpOutstanding)
     (written : NewAreWrittenAmong as_outstanding left_outstanding old new outs) (as_many : length outs ≡ length boxes) where
   abbrev names : List (Group ℕ ℕ)
   names = names_left fits.fitted.left
 
-  at_end : AreWrittenAmong as_outstanding left_outstanding (fit_records boxes exclusions fits.all fits.collected fits.best names old new fits.promised) outs
-  at_end = subst (λ rs. AreWrittenAmong as_outstanding left_outstanding rs outs)
-      (new_entries old.outstanding (fit_records boxes exclusions fits.all fits.collected fits.best names old new fits.promised) new.outstanding
-      (fit_records_are boxes exclusions fits.all fits.collected fits.best names old new fits.promised)) written
+  abbrev kept : IsKept fits.all names old new
+  kept = kept_fitting fits.best fits.all names old new fits.promised
 
   pub fit_written : IsSession nat_cmp new → new.next < 2 ^ 64 → (count : ℕ) → count ≡ count_by number_says_left outs
       → AreFittedNow boxes outs (names_left fits.fitted.left) count old new
   fit_written always below count counted =
-      are_fitted_now boxes exclusions fits.all fits.collected fits.best names old new fits.promised outs at_end as_many always below count counted
+      are_fitted_now boxes exclusions fits.all fits.collected names old new kept outs
+      (at_end boxes exclusions fits.all fits.collected names old new kept outs written) as_many always below count counted
 
   pub fit_written_apart : All (λ e. e.one ≢ e.other) exclusions → StandFittedApart boxes exclusions outs
   fit_written_apart differ =
-      stand_fitted_apart boxes exclusions fits.all fits.collected fits.best names old new fits.promised outs at_end as_many differ
+      stand_fitted_apart boxes exclusions fits.all fits.collected names old new kept outs
+      (at_end boxes exclusions fits.all fits.collected names old new kept outs written) as_many differ
 
--- what is written of what fits into new bins
+-- what is written of what is kept in new bins
 module _ (bins : List RpBin) (few : length bins < 2 ^ 32) (boxes : List RpBox) (exclusions : List RpExclusion) (all : Collection ℕ ℕ)
-    (collected : IsCollected boxes exclusions all) (best : Heuristic) (left : List (Group ℕ ℕ)) (new : State ℕ ℕ)
-    (made : PlacesWhatFits group_order (named_rules nat_cmp nat_cmp best) all (session_with bins) left new)
+    (collected : IsCollected boxes exclusions all) (left : List (Group ℕ ℕ)) (new : State ℕ ℕ)
+    (made : IsKept all left (session_with bins) new)
+    (in_bin : (q : Placement ℕ ℕ) → Contains made.placements q → StandsIn bins made.placements new.bins q)
     (places : List RpPlacement) (w : AreWrittenAmong as_placement left_placement (numbered 0 made.placements) places)
     (as_many : length places ≡ length boxes) where
   abbrev none : List (Placement ℕ ℕ)
@@ -261,24 +291,6 @@ module _ (bins : List RpBin) (few : length bins < 2 ^ 32) (boxes : List RpBox) (
   lost_in : (i : ℕ) (b : RpBox) (p : RpPlacement) → Stands boxes places i b p → IsLost none left i b → p.bin ≡ 0xffffffff
   lost_in i b p s l = ap (λ (o : RpPlacement). o.bin) (lost_place i b p s l)
 
-  abbrev excludes : List (Group ℕ ℕ × ℕ) → Group ℕ ℕ → ℕ → Bool
-  excludes = excludes_by group_order nat_cmp all.partners
-
-  abbrev order : List ℕ
-  order = map (λ (o : ℕ × ℕ). o.1) made.fits.bin_order
-
-  abbrev last : Stage (Group ℕ ℕ) ℕ
-  last = record { bins = new.bins; homes = made.fits.homes }
-
-  some : PlacesSome (rules_by nat_cmp nat_cmp (named_answers best)) excludes (λ _. Unit {0}) order made.fits.groups (at_start (new_bins bins))
-      made.placements left last
-  some = some_placed (rules_by nat_cmp nat_cmp (named_answers best)) excludes order made.fits.groups (at_start (new_bins bins)) made.placements left last
-      made.fits.tests made.fits.taken
-
-  in_bin : (q : Placement ℕ ℕ) → Contains made.placements q
-      → StandsIn bins (named_answers best) excludes order some.kept made.placements last some.tests some.placed q
-  in_bin q inside = stands_in bins (named_answers best) excludes order some.kept made.placements last some.tests some.placed q inside
-
   pub fit_done : AreFitted bins boxes places
   fit_done = record {
     as_many = as_many;
@@ -292,7 +304,7 @@ module _ (bins : List RpBin) (few : length bins < 2 ^ 32) (boxes : List RpBox) (
       stand i b p s ne (inl f) =
           let at = in_bin f.from f.inside in
           rw (f.bin, at.is, f.location)
-          (inside_bin bins (named_answers best) excludes order some.kept made.placements last some.tests some.placed f.from f.inside at)
+          (inside_bin bins made.placements new.bins f.from f.inside at)
       stand i b p s ne (inr l) = absurd (ne (lost_in i b p s l))
 
       sharing : (i j : ℕ) (a b : RpBox) (p q : RpPlacement) → Stands boxes places i a p → Stands boxes places j b q → i ≢ j → p.bin ≢ 0xffffffff
@@ -300,7 +312,7 @@ module _ (bins : List RpBin) (few : length bins < 2 ^ 32) (boxes : List RpBox) (
           → AreApart (box_at a p) (box_at b q)
       sharing i j a b p q s t differ ne same (inl f) (inl g) =
           rw (f.location, g.location)
-          (apart_in bins (named_answers best) excludes order some.kept made.placements last some.tests some.placed f.from g.from f.inside g.inside
+          (apart_in bins made.placements new.bins f.from g.from f.inside (in_bin f.from f.inside) g.inside
           (λ e. differ (sym f.id ∙ e ∙ g.id)) (sym g.bin ∙ sym same ∙ f.bin))
       sharing i j a b p q s t differ ne same (inl f) (inr l) = absurd (ne (same ∙ lost_in j b q t l))
       sharing i j a b p q s t differ ne same (inr l) g = absurd (ne (lost_in i a p s l))
@@ -335,6 +347,20 @@ module _ (bins : List RpBin) (few : length bins < 2 ^ 32) (boxes : List RpBox) (
           })
       by (inr l) = inr (l.group, lost_place i b p s l)
 
+-- what fits into new bins stands in them
+fit_stands : (bins : List RpBin) (all : Collection ℕ ℕ) (best : Heuristic) (left : List (Group ℕ ℕ)) (new : State ℕ ℕ)
+    (made : PlacesWhatFits group_order (named_rules nat_cmp nat_cmp best) all (session_with bins) left new)
+    (q : Placement ℕ ℕ) → Contains made.placements q → StandsIn bins made.placements new.bins q
+fit_stands bins all best left new made q inside =
+    let excludes : List (Group ℕ ℕ × ℕ) → Group ℕ ℕ → ℕ → Bool = excludes_by group_order nat_cmp all.partners in
+    let order : List ℕ = map (λ (o : ℕ × ℕ). o.1) made.fits.bin_order in
+    let last : Stage (Group ℕ ℕ) ℕ = record { bins = new.bins; homes = made.fits.homes } in
+    let some : PlacesSome (rules_by nat_cmp nat_cmp (named_answers best)) excludes (λ _. Unit {0}) order made.fits.groups (at_start (new_bins bins))
+    made.placements left last =
+    some_placed (rules_by nat_cmp nat_cmp (named_answers best)) excludes order made.fits.groups (at_start (new_bins bins)) made.placements left last
+    made.fits.tests made.fits.taken in
+    stands_in bins (named_answers best) excludes order some.kept made.placements last some.tests some.placed q inside
+
 -- all that is said of a call whose session began with these bins
 pub record IsFitAnswered (heuristic : ℕ) (bins : List RpBin) (boxes : List RpBox) (exclusions : List RpExclusion) (placements : List RpPlacement)
     (fitted : RpFitted) : Type 0 where
@@ -357,16 +383,18 @@ fit_answered heuristic bins boxes exclusions chosen count old new was fits place
         → IsFitAnswered heuristic bins boxes exclusions placements (record { heuristic = chosen; left = count })
     by f w =
         let names = names_left f.fitted.left in
-        let made : PlacesWhatFits group_order (named_rules nat_cmp nat_cmp f.best) f.all (session_with bins) names new = f.promised in
+        let made = kept_fitting f.best f.all names (session_with bins) new f.promised in
+        let stands = fit_stands bins f.all f.best names new f.promised in
         let at_end : AreWrittenAmong as_placement left_placement (numbered 0 made.placements) placements =
         subst (λ rs. AreWrittenAmong as_placement left_placement rs placements) made.outstanding w in
         record {
           packed = record {
             after = new;
             fits = f;
-            each = fit_each bins few boxes exclusions f.all f.collected f.best names new made placements at_end as_many;
+            as_many = as_many;
+            each = fit_each bins few boxes exclusions f.all f.collected names new made stands placements at_end as_many;
             counted = counted;
           };
-          done = fit_done bins few boxes exclusions f.all f.collected f.best names new made placements at_end as_many;
-          apart = fit_apart bins few boxes exclusions f.all f.collected f.best names new made placements at_end as_many differ;
+          done = fit_done bins few boxes exclusions f.all f.collected names new made stands placements at_end as_many;
+          apart = fit_apart bins few boxes exclusions f.all f.collected names new made stands placements at_end as_many differ;
         }

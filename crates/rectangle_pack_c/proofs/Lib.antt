@@ -1,5 +1,6 @@
 pub mod Std
 pub mod HandleSteps
+pub mod SearchHandleSteps
 pub mod OrderLemmas
 pub mod WholeLemmas
 pub mod CollectedLemmas
@@ -9,9 +10,20 @@ pub mod PlacedLemmas
 pub mod AnswerLemmas
 pub mod SessionLemmas
 pub mod FittingLemmas
+pub mod StepLemmas
 pub mod FittedLemmas
+pub mod OneFitLemmas
+pub mod ToldLemmas
+pub mod LaidLemmas
+pub mod StandingLemmas
+pub mod CostLemmas
+pub mod SearchFaultLemmas
+pub mod SearchedLemmas
 pub mod UpkeepLemmas
 pub mod PlacingLemmas
 pub mod JudgingLemmas
+pub mod TurningLemmas
+pub mod EntriesLemmas
+pub mod BoundingLemmas
 pub mod SavedLemmas
 pub mod PutLemmas

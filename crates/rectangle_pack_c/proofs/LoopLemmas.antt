@@ -3,7 +3,9 @@ use Rattle.rectangle_pack_c.proofs.Std.{◌≡◌, ◌≢◌, ℕ, ◌+◌, ◌<
 use Rattle.rectangle_pack_c.proofs.Std.{AllPairs, map, Some, slice_get, enumerate_from, IsStrictlySortedBy, Ordering, Equal, keys_of, nat_cmp, insert_entry}
 use Rattle.rectangle_pack_c.proofs.Std.{nat_tests, take_more, length-map, length-take, length-take-le, length-set, get_or_default, map-append, get_or-set_same, length-append}
 use Rattle.rectangle_pack_c.proofs.Std.{get_or-set_other, slice_get-get_or, slice_get_within, get_or_from_slice_get, exact_unsigned, set}
-use Rattle.rectangle_pack_c.proofs.Std.{Option, None, MatchOption, Vec, append_assoc, take_all, suc, zero}
+use Rattle.rectangle_pack_c.proofs.Std.{Option, None, MatchOption, Vec, append_assoc, append-nil, take_all, suc, zero, Bool, true, cond, filter, filter-append}
+use Rattle.std.proofs.lemmas.List.{take-append-drop}
+use Rattle.std.proofs.lemmas.List.Elements.{filter_more}
 use Rattle.rectangle_pack.specs.declared.session.command.Outstanding.{Outstanding}
 use Rattle.rectangle_pack.specs.declared.session.command.Reply.TheVariants.{Done}
 use Rattle.rectangle_pack.specs.declared.grouped_rects_to_place.Group.{Group}
@@ -155,3 +157,39 @@ pub told_all : {S T : Type 0} (written : S → T) (there : List S) (old new : Li
     → new ≡ map written (take i there) ++ drop i old → new ≡ map written there ++ drop (length (map written there)) old
 told_all written there old new i end told =
     rw (length-map there written) (told ∙ rw (end, take_all (length there) there (omega arith)) refl)
+
+-- those of a kind among the first entries of a list are some of all of that kind
+pub kept_within : {X : Type 0} (p : X → Bool) (there : List X) (n : ℕ) → length (filter p (take n there)) ≤ length (filter p there)
+kept_within p there n =
+    let first = filter p (take n there) in
+    let parts : filter p there ≡ first ++ filter p (drop n there) =
+    ap (filter p) (sym (take-append-drop n there)) ∙ filter-append p (take n there) (drop n there) in
+    omega (arith, ap (λ l. length l) parts, length-append first (filter p (drop n there)))
+
+module _ {X Y : Type 0} (f : X → Y) (p : X → Bool) (there : List X) (array : List Y) (i : ℕ) (x : X) (within : i < length there)
+    (is : x ≡ get_or there i x) where
+  -- those of a kind go to the beginning of an array
+  abbrev kept : ℕ → List X
+  kept n = filter p (take n there)
+
+  next_kept : (t : Bool) → p x ≡ t → kept (i + 1) ≡ kept i ++ cond t (x ∷ []) []
+  next_kept t e = filter_more p there i x within ∙ rw (← is, e) refl
+
+  -- the entry of this index is one of them, and there is room for it
+  pub kept_room : p x ≡ true → length (kept i) < length (filter p there)
+  kept_room passes = omega
+      (arith, ap (λ l. length l) (next_kept true passes), length-append (kept i) (x ∷ []), kept_within p there (i + 1))
+
+  pub kept_count : p x ≡ true → length (kept (i + 1)) ≡ length (kept i) + 1
+  kept_count passes = omega (arith, ap (λ l. length l) (next_kept true passes), length-append (kept i) (x ∷ []))
+
+  -- it goes behind those that are written
+  pub kept_more : p x ≡ true → length (filter p there) ≤ length array
+      → set (map f (kept i) ++ drop (length (kept i)) array) (length (kept i)) (f x) ≡ map f (kept (i + 1)) ++ drop (length (kept (i + 1))) array
+  kept_more passes room =
+      let next = told_next f (kept i) x array (omega (arith, room, kept_room passes)) in
+      rw (next_kept true passes) next
+
+  -- or it is none of them
+  pub kept_same : p x ≡ false → kept (i + 1) ≡ kept i
+  kept_same fails = next_kept false fails ∙ append-nil (kept i)

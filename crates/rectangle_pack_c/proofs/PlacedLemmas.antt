@@ -104,7 +104,7 @@ pairs_kept test (p ∷ ps) a b h ca cb ta tb ne = by (test p) refl h (in_cases p
     by false t k (inr x) (inr y) ih = ih k x y
 
 -- of two elements one is before the other, or they are the same
-pair_of : {X : Type 0} (R : X → X → Type 0) (xs : List X) → AllPairs R xs → (x y : X) → Contains xs x → Contains xs y → (x ≡ y) ⊎ (R x y ⊎ R y x)
+pub pair_of : {X : Type 0} (R : X → X → Type 0) (xs : List X) → AllPairs R xs → (x y : X) → Contains xs x → Contains xs y → (x ≡ y) ⊎ (R x y ⊎ R y x)
 pair_of R [] h x y cx cy = absurd (none_in x cx)
 pair_of {X} R (z ∷ zs) h x y cx cy = by (in_cases z zs x cx) (in_cases z zs y cy) (pair_of R zs (AllPairs-tail R z zs h) x y)
   where
@@ -118,7 +118,7 @@ pair_of {X} R (z ∷ zs) h x y cx cy = by (in_cases z zs x cx) (in_cases z zs y 
     by (inr d) (inr g) ih = ih d g
 
 -- what passes a test is found by it
-any_found : {X : Type 0} (test : X → Bool) (xs : List X) (x : X) → Contains xs x → test x ≡ true → list_any test xs ≡ true
+pub any_found : {X : Type 0} (test : X → Bool) (xs : List X) (x : X) → Contains xs x → test x ≡ true → list_any test xs ≡ true
 any_found test xs x (k, within, at) passes = list_any_at test xs k x within (ap test at ∙ passes)
 
 -- a look-up among new bins
@@ -176,31 +176,24 @@ homes_apart boxes exclusions all collected homes differ apart ha hb in_a in_b e 
     by x y forth back bins keys (inr (inl h)) = absurd (let yes : is_at (nat_cmp x.1) y.1 ≡ true = rw bins (nat_same y.1) in let none = h forth in cc)
     by x y forth back bins keys (inr (inr h)) = absurd (let yes : is_at (nat_cmp y.1) x.1 ≡ true = rw bins (nat_same y.1) in let none = h back in cc)
 
--- what all groups of a packing that places all are placed as, in new bins
-module _ (bins : List RpBin) (may : Answers) (excludes : List (Group ℕ ℕ × ℕ) → Group ℕ ℕ → ℕ → Bool) (order : List ℕ)
-    (groups : List (Group ℕ ℕ × Members ℕ)) (ps : List (Placement ℕ ℕ)) (last : Stage (Group ℕ ℕ) ℕ) (tests : ℕ)
-    (placed : AreAllPlaced (rules_by nat_cmp nat_cmp may) excludes order groups (at_start (new_bins bins)) ps last tests) where
+-- placements in new bins, and what these have become
+module _ (bins : List RpBin) (ps : List (Placement ℕ ℕ)) (after : List (ℕ × Bin)) where
   -- the bin of a placement, and what it has become
   pub record StandsIn (q : Placement ℕ ℕ) : Type 0 where
     pub bin : RpBin
     pub is : slice_get bins q.bin ≡ Some bin
-    pub changed : IsChanged IsRecut nat_cmp ps last.bins q.bin (new_bin (bin_size bin))
+    pub changed : IsChanged IsRecut nat_cmp ps after q.bin (new_bin (bin_size bin))
 
-  pub stands_in : (q : Placement ℕ ℕ) → Contains ps q → StandsIn q
-  stands_in q inside =
-      let rules : Rules ℕ ℕ = rules_by nat_cmp nat_cmp may in
-      let keys = keys-placed rules excludes order groups (at_start (new_bins bins)) ps last tests placed in
-      let known = All-contains (λ (p : Placement ℕ ℕ). IsSome (lookup (is_at (nat_cmp p.bin)) last.bins)) ps q
-      (known-placed rules excludes nat_cmp_total order groups (at_start (new_bins bins)) ps last tests placed) inside in
-      let there = some_of (lookup (is_at (nat_cmp q.bin)) (new_bins bins))
-      (sym (is_some-keys (is_at (nat_cmp q.bin)) last.bins (new_bins bins) keys) ∙ known) in
+  -- a bin that is there afterwards was there before
+  pub stands_so : (q : Placement ℕ ℕ) → Contains ps q → keys_of after ≡ keys_of (new_bins bins)
+      → All (λ p. IsSome (lookup (is_at (nat_cmp p.bin)) after)) ps
+      → ((before : Bin) → lookup (is_at (nat_cmp q.bin)) (new_bins bins) ≡ Some before → IsChanged IsRecut nat_cmp ps after q.bin before)
+      → StandsIn q
+  stands_so q inside keys known changed =
+      let found = All-contains (λ (p : Placement ℕ ℕ). IsSome (lookup (is_at (nat_cmp p.bin)) after)) ps q known inside in
+      let there = some_of (lookup (is_at (nat_cmp q.bin)) (new_bins bins)) (sym (is_some-keys (is_at (nat_cmp q.bin)) after (new_bins bins) keys) ∙ found) in
       let (bin, is, before) = lookup_bin bins q.bin there.0 there.1 in
-      record {
-        bin = bin;
-        is = is;
-        changed = changed-all IsFrame-recut rules nat_cmp_total (KeptBySteps-recut may) excludes order groups (at_start (new_bins bins)) ps last
-            tests placed q.bin (new_bin (bin_size bin)) (rw (← before) there.1);
-      }
+      record { bin = bin; is = is; changed = changed (new_bin (bin_size bin)) (rw (← before) there.1) }
 
   pub inside_bin : (q : Placement ℕ ℕ) (c : Contains ps q) (s : StandsIn q) → IsInside (bin_size s.bin) q.location
   inside_bin q c s =
@@ -211,13 +204,25 @@ module _ (bins : List RpBin) (may : Answers) (excludes : List (Group ℕ ℕ × 
       (Contains-append_right s.changed.after.sections (locations_in nat_cmp ps q.bin) q.location
       (in_kept (λ (p : Placement ℕ ℕ). p.location) (λ p. is_at (nat_cmp p.bin) q.bin) ps q c (nat_same q.bin)))
 
-  pub apart_in : (a b : Placement ℕ ℕ) → Contains ps a → Contains ps b → a.id ≢ b.id → b.bin ≡ a.bin → AreApart a.location b.location
-  apart_in a b ca cb ne same =
-      let s = stands_in a ca in
+  pub apart_in : (a b : Placement ℕ ℕ) (ca : Contains ps a) (s : StandsIn a) → Contains ps b → a.id ≢ b.id → b.bin ≡ a.bin
+      → AreApart a.location b.location
+  apart_in a b ca s cb ne same =
       let boxes = s.changed.after.sections ++ locations_in nat_cmp ps a.bin in
       let pairs = apart_from_counts boxes (λ c. rw (s.changed.framed.cells c) (filled_one c (whole (bin_size s.bin)))) in
       pairs_kept (λ p. is_at (nat_cmp p.bin) a.bin) ps a b (pairs_right AreApart s.changed.after.sections (locations_in nat_cmp ps a.bin) pairs) ca cb
       (nat_same a.bin) (rw same (nat_same a.bin)) ne
+
+-- so stand those of a packing that places all groups
+pub stands_in : (bins : List RpBin) (may : Answers) (excludes : List (Group ℕ ℕ × ℕ) → Group ℕ ℕ → ℕ → Bool) (order : List ℕ)
+    (groups : List (Group ℕ ℕ × Members ℕ)) (ps : List (Placement ℕ ℕ)) (last : Stage (Group ℕ ℕ) ℕ) (tests : ℕ)
+    → AreAllPlaced (rules_by nat_cmp nat_cmp may) excludes order groups (at_start (new_bins bins)) ps last tests
+    → (q : Placement ℕ ℕ) → Contains ps q → StandsIn bins ps last.bins q
+stands_in bins may excludes order groups ps last tests placed q inside =
+    let rules : Rules ℕ ℕ = rules_by nat_cmp nat_cmp may in
+    stands_so bins ps last.bins q inside (keys-placed rules excludes order groups (at_start (new_bins bins)) ps last tests placed)
+    (known-placed rules excludes nat_cmp_total order groups (at_start (new_bins bins)) ps last tests placed)
+    (λ before was. changed-all IsFrame-recut rules nat_cmp_total (KeptBySteps-recut may) excludes order groups (at_start (new_bins bins)) ps last
+    tests placed q.bin before was)
 
 module _ (boxes : List RpBox) (exclusions : List RpExclusion) (all : Collection ℕ ℕ) (collected : IsCollected boxes exclusions all) (ps : List (Placement ℕ ℕ))
     (homes : List (Group ℕ ℕ × ℕ)) (moved : IsPermutation (keys_of all.groups) (map (λ h. h.0) homes))
@@ -311,26 +316,22 @@ module _ (boxes : List RpBox) (exclusions : List RpExclusion) (all : Collection 
 
     module _ (bins : List RpBin) (may : Answers) (after : List (ℕ × Bin))
         (done : PackingDone group_order (rules_by nat_cmp nat_cmp may) all (new_bins bins) ps after) where
-      abbrev excludes : List (Group ℕ ℕ × ℕ) → Group ℕ ℕ → ℕ → Bool
-      excludes = excludes_by group_order nat_cmp all.partners
-
-      abbrev order : List ℕ
-      order = map (λ (o : ℕ × ℕ). o.1) done.bin_order
-
-      abbrev last : Stage (Group ℕ ℕ) ℕ
-      last = record { bins = after; homes = done.homes }
+      stands : (q : Placement ℕ ℕ) → Contains ps q → StandsIn bins ps after q
+      stands q inside =
+          stands_in bins may (excludes_by group_order nat_cmp all.partners) (map (λ (o : ℕ × ℕ). o.1) done.bin_order) done.groups ps
+          (record { bins = after; homes = done.homes }) done.tests done.placed q inside
 
       pub packed_placed : length placements ≡ length boxes → ArePlaced bins boxes placements
       packed_placed as_many = record {
         as_many = as_many;
         inside = λ i b p s.
             let f = comes_from i b p s in
-            let in_bin = stands_in bins may excludes order done.groups ps last done.tests done.placed f.from f.inside in
-            rw (f.bin, in_bin.is, f.location) (inside_bin bins may excludes order done.groups ps last done.tests done.placed f.from f.inside in_bin);
+            let in_bin = stands f.from f.inside in
+            rw (f.bin, in_bin.is, f.location) (inside_bin bins ps after f.from f.inside in_bin);
         apart = λ i j a b p q s t ne same.
             let f = comes_from i a p s in
             let g = comes_from j b q t in
-            rw (f.location, g.location) (apart_in bins may excludes order done.groups ps last done.tests done.placed f.from g.from f.inside g.inside
+            rw (f.location, g.location) (apart_in bins ps after f.from g.from f.inside (stands f.from f.inside) g.inside
             (λ e. ne (sym f.id ∙ e ∙ g.id)) (sym g.bin ∙ sym same ∙ f.bin));
         together = stand_together;
       }

@@ -24,24 +24,23 @@ use Rattle.rectangle_pack.specs.Restoring.{IsRestored}
 use Rattle.rectangle_pack.specs.Session.{State, IsSession, outstanding_in}
 use Rattle.rectangle_pack.proofs.lemmas.session.Restoring.{no_session-record, no_session-bin}
 use Rattle.rectangle_pack_c.specs.declared.reading.RpSection.{RpSection}
-use Rattle.rectangle_pack_c.specs.declared.reading.RpStanding.{RpStanding}
+use Rattle.rectangle_pack_c.specs.declared.standing.RpStanding.{RpStanding}
 use Rattle.rectangle_pack_c.specs.declared.restoring.RpSaved.{RpSaved}
 use Rattle.rectangle_pack_c.specs.declared.restoring.RpSavedBin.{RpSavedBin}
 use Rattle.rectangle_pack_c.specs.declared.restoring.RpWrong.{RpWrong}
 use Rattle.rectangle_pack_c.specs.declared.restoring.SavedError.{SavedError}
 use Rattle.rectangle_pack_c.specs.declared.restoring.SavedError.TheVariants.{Counts, Ids, Sections, Parts}
-use Rattle.rectangle_pack_c.specs.Reading.{section_of, standing_of}
+use Rattle.rectangle_pack_c.specs.Reading.{cuboid_of, section_of, standing_of}
 use Rattle.rectangle_pack_c.specs.Restoring.{IsSavedBin, HasParts, IsSavedSession, AreCounted, IdsRise, IsSavedFault, wrong_in_sections, wrong_written}
-use Rattle.rectangle_pack_c.specs.Upkeep.{box_of}
 use Rattle.rectangle_pack_c.specs.private.Saved.{AreBinsSaved, bin_saved, bins_saved, outstanding_of, state_saved}
 use Rattle.rectangle_pack_c.proofs.OrderLemmas.{nat_same, nat_other}
 
 -- what is read of what was written is as before, and the other way round
-boxes_again : (boxes : List Cuboid) → map box_of (map section_of boxes) ≡ boxes
+boxes_again : (boxes : List Cuboid) → map cuboid_of (map section_of boxes) ≡ boxes
 boxes_again [] = refl
 boxes_again (b ∷ boxes) = ap (λ l. b ∷ l) (boxes_again boxes)
 
-sections_again : (sections : List RpSection) → map section_of (map box_of sections) ≡ sections
+sections_again : (sections : List RpSection) → map section_of (map cuboid_of sections) ≡ sections
 sections_again [] = refl
 sections_again (s ∷ sections) = ap (λ l. s ∷ l) (sections_again sections)
 
@@ -88,7 +87,7 @@ bins_are_saved (b ∷ bins) sections e =
     let n = b.section_count in
     let parts = sum_by-cons count_of b bins in
     let fits : n ≤ length sections = omega (arith, e, parts) in (
-      record { id = refl; size = refl; coalesced = refl; count = length-map (take n sections) box_of ∙ length-take-le n sections fits },
+      record { id = refl; size = refl; coalesced = refl; count = length-map (take n sections) cuboid_of ∙ length-take-le n sections fits },
       bins_are_saved bins (drop n sections) (omega (arith, e, parts, length-drop n sections)),
     )
 
@@ -133,7 +132,7 @@ saved_bins (e ∷ es) (b ∷ bins) sections h is =
     let many : length (told e) ≡ n = length-map e.1.sections section_of ∙ h.0.count in
     let own : take n sections ≡ told e = rw (← is) (front n (told e) (flat_map told es) many) in
     let rest : flat_map told es ≡ drop n sections = rw (← is) (sym (back n (told e) (flat_map told es) many)) in
-    let boxes : e.1.sections ≡ map box_of (take n sections) = rw own (sym (boxes_again e.1.sections)) in
+    let boxes : e.1.sections ≡ map cuboid_of (take n sections) = rw own (sym (boxes_again e.1.sections)) in
     let bin : e.1 ≡ bin_saved b (take n sections) = same_bin e.1 (bin_saved b (take n sections)) h.0.size boxes h.0.coalesced in
     let entry : e ≡ (b.id, bin_saved b (take n sections)) = same_entry e b.id (bin_saved b (take n sections)) h.0.id bin in
     ap (λ (l : List (ℕ × Bin)). e ∷ l) (saved_bins es bins (drop n sections) h.1 rest)

@@ -50,7 +50,7 @@ from_map {X} f (x ∷ xs) y h = by (in_cases (f x) (map f xs) y h) (from_map f x
     by (inr more) ih = let (z, inside, e) = ih more in (z, in_later x xs z inside, e)
 
 -- what is beside an element of the second list, and of the first
-zip_left : {X Y : Type 0} (R : X → Y → Type 0) (xs : List X) (ys : List Y) → AllZip R xs ys → (y : Y) → Contains ys y → (x : X) × Contains xs x × R x y
+pub zip_left : {X Y : Type 0} (R : X → Y → Type 0) (xs : List X) (ys : List Y) → AllZip R xs ys → (y : Y) → Contains ys y → (x : X) × Contains xs x × R x y
 zip_left R [] [] h y c = absurd (none_in y c)
 zip_left R [] (z ∷ ys) h y c = absurd h
 zip_left R (x ∷ xs) [] h y c = absurd h

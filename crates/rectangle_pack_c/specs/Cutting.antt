@@ -13,9 +13,8 @@ use Rattle.rectangle_pack_c.specs.declared.reading.RpCutStep.{RpCutStep}
 use Rattle.rectangle_pack_c.specs.declared.reading.RpSection.{RpSection}
 use Rattle.rectangle_pack_c.specs.declared.restoring.RpWrong.{RpWrong}
 use Rattle.rectangle_pack_c.specs.Arguments.{bin_size}
-use Rattle.rectangle_pack_c.specs.Reading.{Tells, step_of}
+use Rattle.rectangle_pack_c.specs.Reading.{Tells, cuboid_of, step_of}
 use Rattle.rectangle_pack_c.specs.Restoring.{wrong_in_sections}
-use Rattle.rectangle_pack_c.specs.Upkeep.{box_of}
 
 -- what the caller lends: an array for the steps, a place for their number, and one for what is wrong
 pub record Lent : Type 0 where
@@ -53,7 +52,7 @@ module _ (size : Size) (boxes : List Cuboid) where
 -- one of these is told, or that memory was refused (`RP_OUT_OF_MEMORY`), and then nothing is written
 abbrev pub TellsCuts : RpBin → List RpSection → (status : ℕ) (old new : Lent) → Type 0
 TellsCuts bin boxes status old new =
-    TellsCutsRound (bin_size bin) (map box_of boxes) status old new
-    ⊎ TellsNoCuts (bin_size bin) (map box_of boxes) status old new
-    ⊎ TellsWrongBoxes (bin_size bin) (map box_of boxes) status old new
+    TellsCutsRound (bin_size bin) (map cuboid_of boxes) status old new
+    ⊎ TellsNoCuts (bin_size bin) (map cuboid_of boxes) status old new
+    ⊎ TellsWrongBoxes (bin_size bin) (map cuboid_of boxes) status old new
     ⊎ ((status ≡ 2) × (new ≡ old))

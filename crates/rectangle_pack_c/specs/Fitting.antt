@@ -107,13 +107,15 @@ pub record IsPlaced (left : List (Group ℕ ℕ)) (new : State ℕ ℕ) (i : ℕ
   pub bin : p.bin < 0xffffffff
   pub taken : ¬ Contains left (group_of i b)
 
--- what fits of the collection is packed into a new session with these bins (`FitsCollection`). Each box is placed there
--- (`IsPlaced`), or its group is left and its placement says so. How many placements say so is written
+-- what fits of the collection is packed into a new session with these bins (`FitsCollection`). There are as many
+-- placements as boxes. Each box is placed there (`IsPlaced`), or its group is left and its placement says so. How many
+-- placements say so is written
 -- Example: the boxes 6x6x1, 5x5x1 and 4x4x1, each alone, into a bin 10x10x1 by volume: the second is left
 pub record FitsNewBins (heuristic : ℕ) (bins : List RpBin) (boxes : List RpBox) (exclusions : List RpExclusion) (placements : List RpPlacement)
     (fitted : RpFitted) : Type 0 where
   pub after : State ℕ ℕ
   pub fits : FitsCollection heuristic boxes exclusions fitted.heuristic (session_with bins) after
+  pub as_many : length placements ≡ length boxes
   pub each : (i : ℕ) (b : RpBox) (p : RpPlacement) → Stands boxes placements i b p
       → IsPlaced (names_left fits.fitted.left) after i b p ⊎ (Contains (names_left fits.fitted.left) (group_of i b) × (p ≡ left_placement))
   pub counted : fitted.left ≡ count_by says_left placements

@@ -12,14 +12,13 @@ use Rattle.rectangle_pack.specs.declared.judge.Conflict.TheVariants.{PlacedTwice
 use Rattle.rectangle_pack.specs.declared.judge.Fault.{Fault}
 use Rattle.rectangle_pack.specs.declared.judge.Fault.TheVariants.{Alone, Together, NotPlaced}
 use Rattle.rectangle_pack.specs.Judging.{IsVerdict}
-use Rattle.rectangle_pack.specs.Boxes.{Cuboid}
 use Rattle.rectangle_pack_c.specs.declared.RpBin.{RpBin}
 use Rattle.rectangle_pack_c.specs.declared.collection.RpExclusion.{RpExclusion}
-use Rattle.rectangle_pack_c.specs.declared.reading.RpSection.{RpSection}
 use Rattle.rectangle_pack_c.specs.declared.judging.RpEntry.{RpEntry}
 use Rattle.rectangle_pack_c.specs.declared.judging.RpClaim.{RpClaim}
 use Rattle.rectangle_pack_c.specs.declared.judging.RpFault.{RpFault}
 use Rattle.rectangle_pack_c.specs.Arguments.{bin_size, box_size}
+use Rattle.rectangle_pack_c.specs.Reading.{cuboid_of}
 
 -- there are fewer than 2^32 bins, boxes and claims
 pub record AreFew (bins : List RpBin) (entries : List RpEntry) (claims : List RpClaim) : Type 0 where
@@ -46,10 +45,6 @@ entries_of entries = map (λ e. entry_of e.0 e.1) (enumerate_from 0 entries)
 -- the groups of an exclusion
 abbrev pub pair_of : RpExclusion → ℕ × ℕ
 pair_of e = (e.one, e.other)
-
--- where a box stands
-abbrev pub cuboid_of : RpSection → Cuboid
-cuboid_of s = record { x = s.x; y = s.y; z = s.z; whd = record { width = s.width; height = s.height; depth = s.depth } }
 
 -- a claim, as the judge has it
 abbrev pub claim_of : RpClaim → Claim

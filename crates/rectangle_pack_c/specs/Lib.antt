@@ -6,9 +6,13 @@ pub mod Handle
 pub mod Reading
 pub mod Sessions
 pub mod Fitting
+pub mod Telling
 pub mod Upkeep
 pub mod Placing
 pub mod Judging
+pub mod Turning
+pub mod Bounding
 pub mod Restoring
 pub mod Cutting
+pub mod Searching
 pub mod private

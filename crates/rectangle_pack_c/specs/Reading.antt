@@ -1,5 +1,5 @@
 -- What C reads of a session: lists that go to arrays of the caller's.
-use Rattle.std.specs.Prelude.{◌≡◌, ◌⊎◌, ℕ, ◌<◌, ◌≤◌, List, ◌++◌, length, drop, map, MatchOption, if◌then◌else◌}
+use Rattle.std.specs.Prelude.{◌≡◌, ◌⊎◌, ◌==◌, ℕ, ◌<◌, ◌≤◌, List, ◌++◌, length, drop, filter, map, MatchOption, if◌then◌else◌}
 use Rattle.std.specs.Ordering.{nat_cmp}
 use Rattle.std.specs.Map.{lookup}
 use Rattle.std.specs.BTreeMap.{is_at}
@@ -14,12 +14,16 @@ use Rattle.rectangle_pack.specs.Session.{State, boxes_of}
 use Rattle.rectangle_pack_c.specs.declared.RpBin.{RpBin}
 use Rattle.rectangle_pack_c.specs.declared.reading.RpCutStep.{RpCutStep}
 use Rattle.rectangle_pack_c.specs.declared.reading.RpSection.{RpSection}
-use Rattle.rectangle_pack_c.specs.declared.reading.RpStanding.{RpStanding}
+use Rattle.rectangle_pack_c.specs.declared.standing.RpStanding.{RpStanding}
 use Rattle.rectangle_pack_c.specs.Arguments.{bin_size}
 
 -- what is written of a box of cells: its corner and its sides
 abbrev pub section_of : Cuboid → RpSection
 section_of c = record { x = c.x; y = c.y; z = c.z; width = c.whd.width; height = c.whd.height; depth = c.whd.depth }
+
+-- the box of cells that has this corner and these sides
+abbrev pub cuboid_of : RpSection → Cuboid
+cuboid_of s = record { x = s.x; y = s.y; z = s.z; whd = record { width = s.width; height = s.height; depth = s.depth } }
 
 -- what is written of an outstanding placement, with its box
 abbrev pub standing_of : Outstanding ℕ ℕ → RpStanding
@@ -41,6 +45,18 @@ abbrev pub TellsSections : State ℕ ℕ → (bin status : ℕ) (old new : List 
 TellsSections state bin status old new old_count new_count =
     MatchOption (lookup (is_at (nat_cmp bin)) state.bins) ((status ≡ 5) × (new ≡ old) × (new_count ≡ old_count))
     (λ (b : Bin). Tells (map section_of b.sections) status old new new_count)
+
+-- the outstanding placements that stand in a bin, in their order
+-- Example: 0 and 2 stand in bin 7, and 1 in bin 8: in bin 7 these are 0 and 2
+abbrev pub standing_in : (bin : ℕ) → List (Outstanding ℕ ℕ) → List (Outstanding ℕ ℕ)
+standing_in bin outstanding = filter (λ o. o.bin == bin) outstanding
+
+-- the outstanding placements of one bin go to an array (`Tells`); or the bin is not there (`RP_UNKNOWN_BIN`), and nothing
+-- is written
+abbrev pub TellsStanding : State ℕ ℕ → (bin status : ℕ) (old new : List RpStanding) (old_count new_count : ℕ) → Type 0
+TellsStanding state bin status old new old_count new_count =
+    MatchOption (lookup (is_at (nat_cmp bin)) state.bins) ((status ≡ 5) × (new ≡ old) × (new_count ≡ old_count))
+    (λ (b : Bin). Tells (map standing_of (standing_in bin state.outstanding)) status old new new_count)
 
 -- 1 is written where the bin counts as coalesced, else 0; or the bin is not there (`RP_UNKNOWN_BIN`), and nothing is
 -- written

@@ -146,21 +146,21 @@ pub(crate) fn fault(collection: &RpCollection<'_>, heuristic: u32, placement_cou
 }
 
 // Whether a member names none of the boxes, whose number is `boxes`.
-fn name_no_box(members: &[RpMember], boxes: usize) -> bool
+pub(crate) fn name_no_box(members: &[RpMember], boxes: usize) -> bool
     ensures { result ≡ list_any (λ m. nat_le boxes m.index) members.now }
 {
     members.iter().any(|member| boxes <= member.index as usize)
 }
 
 // Whether a group is excluded with itself.
-fn are_equal(exclusions: &[RpExclusion]) -> bool
+pub(crate) fn are_equal(exclusions: &[RpExclusion]) -> bool
     ensures { result ≡ list_any (λ e. e.one == e.other) exclusions.now }
 {
     exclusions.iter().any(|pair| pair.one == pair.other)
 }
 
 // Whether boxes and members together are `placement_count`, and fewer than 2^32.
-fn are_as_many(collection: &RpCollection<'_>, placement_count: usize) -> bool
+pub(crate) fn are_as_many(collection: &RpCollection<'_>, placement_count: usize) -> bool
     ensures { result ≡ are_as_many collection.now placement_count }
 {
     let (boxes, members) = (collection.boxes.len(), collection.members.len());

@@ -3,7 +3,7 @@ ghost use Rattle.std.specs.Prelude.{map};
 ghost use Rattle.rectangle_pack.specs.StraightCuts.{IsCutsAnswer};
 ghost use Rattle.rectangle_pack_c.specs.Arguments.{bin_size};
 ghost use Rattle.rectangle_pack_c.specs.Cutting.{TellsCuts};
-ghost use Rattle.rectangle_pack_c.specs.Upkeep.{box_of};
+ghost use Rattle.rectangle_pack_c.specs.Reading.{cuboid_of};
 
 use super::reading::{RpCutStep, RpSection, tell};
 use super::restoring::{RpWrong, sections_of, wrong_in_sections};
@@ -64,7 +64,7 @@ fn cuts_of(
     bin: &RpBin,
     boxes: &[RpSection],
 ) -> Result<Option<StraightCuts>, SectionsError>
-    ensures { IsCutsAnswer (bin_size bin.now) (map box_of boxes.now) result }
+    ensures { IsCutsAnswer (bin_size bin.now) (map cuboid_of boxes.now) result }
 {
     let size = RectToInsert::new(bin.width, bin.height, bin.depth);
     let sections = sections_of(alloc, boxes)?;

@@ -1,9 +1,10 @@
 //! Packing what fits for C: groups that no bin takes are left.
-ghost use Rattle.std.specs.Prelude.{◌≡◌, ◌≢◌, ◌==◌, ◌⊎◌, ◌<◌, ◌+◌, ◌^◌, ℕ, [], All, AllPairs, length, slice_get, count_by, Some, IfOk, IfErr, IsOk, IsSome, Err, MatchBool};
+ghost use Rattle.std.specs.Prelude.{◌≡◌, ◌≢◌, ◌==◌, ◌⊎◌, ◌<◌, ◌+◌, ◌^◌, ℕ, List, [], All, AllPairs, length, slice_get, count_by, Some, IfOk, IfErr, IsOk, IsSome, Err, MatchBool};
 ghost use Rattle.std.specs.Ordering.{nat_cmp};
 ghost use Rattle.rectangle_pack.specs.declared.session.command.SessionError.TheVariants.{OutOfMemory};
 ghost use Rattle.rectangle_pack.specs.Session.{IsSession};
 ghost use Rattle.rectangle_pack.specs.SessionFitting.{PacksFittingBest, FitsBestAsPromised};
+ghost use Rattle.rectangle_pack_c.specs.declared.RpPlacement.{RpPlacement};
 ghost use Rattle.rectangle_pack_c.specs.Collections.{all_boxes, fault_in, fault_of, group_order};
 ghost use Rattle.rectangle_pack_c.specs.Fitting.{AreFitted, FitsApart, FitsCollection, FitsInto, FitsNewBins, RefusesFitting, StandFittedApart, left_outstanding, left_placement, number_says_left, says_left};
 ghost use Rattle.rectangle_pack_c.specs.Heuristics.{asked};
@@ -44,7 +45,8 @@ pub const RP_LEFT_NUMBER: u64 = 0xffff_ffff_ffff_ffff;
 /// such the one that uses the bins best. The number of the one that packed is written, and how many
 /// boxes and members are left. `RP_DONE` or `RP_OUT_OF_MEMORY`; or, looked at first and in this
 /// order, `RP_BAD_LENGTHS`, `RP_UNKNOWN_HEURISTIC`, `RP_UNKNOWN_BOX` or `RP_EQUAL_GROUPS`. But for
-/// `RP_DONE` nothing is written.
+/// `RP_DONE` nothing is written. Equal bins and collections get equal placements with the same
+/// heuristic.
 #[unsafe(no_mangle)]
 pub extern "C" fn rectangle_pack_fitting(
     alloc: Global,
@@ -76,6 +78,11 @@ pub extern "C" fn rectangle_pack_fitting(
     ensures packed { result ≡ RP_DONE →
         FitsNewBins heuristic bins.now (all_boxes collection.now) collection.now.exclusions.now
         placements.new fitted.new }
+    // `RP_DONE`: every list of placements, and every `RpFitted`, that is the answer to an equal
+    //   call is this one.
+    ensures one_packing { result ≡ RP_DONE → (other : RpFitted) → (others : List RpPlacement) →
+        FitsNewBins heuristic bins.now (all_boxes collection.now) collection.now.exclusions.now
+        others other → (others ≡ placements.new) × (other ≡ fitted.new) }
     // `RP_DONE`: each box that is not left stands, in its size, inside the bin that its placement
     //   names; no two in one bin share a cell; those of one group above 0 are all left, or all in
     //   one bin. [left_placement.left_is_in_bin_0]
@@ -181,7 +188,7 @@ pub extern "C" fn rectangle_pack_session_pack_fitting(
 }
 
 // What is written of a box that is left.
-fn left_placement() -> RpPlacement
+pub(crate) fn left_placement() -> RpPlacement
     ensures { result ≡ left_placement }
 {
     RpPlacement {
@@ -193,7 +200,7 @@ fn left_placement() -> RpPlacement
 }
 
 // The same in a session.
-fn left_outstanding() -> RpOutstanding
+pub(crate) fn left_outstanding() -> RpOutstanding
     ensures { result ≡ left_outstanding }
 {
     RpOutstanding {
@@ -277,7 +284,7 @@ fn fit_asked<'a>(
 }
 
 // Writes each outstanding placement at the index of its box, and `left` at each other index.
-fn write_among<T: Written<Outstanding<u32, u32>>>(
+pub(crate) fn write_among<T: Written<Outstanding<u32, u32>>>(
     outstanding: &[Outstanding<u32, u32>],
     placements: &mut [T],
     left: T,

@@ -77,7 +77,7 @@ fn size_of(width: u32, height: u32, depth: u32) -> WidthHeightDepth
 }
 
 // About which axes a box may be turned.
-fn turns_of(turns: u32) -> Turns
+pub(crate) fn turns_of(turns: u32) -> Turns
     ensures { result ≡ turns_of turns }
 {
     Turns {

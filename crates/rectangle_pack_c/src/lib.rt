@@ -15,17 +15,24 @@ ghost use Rattle.rectangle_pack_c.specs.Answers.{ArePlaced, IsBestPacking, IsDon
 ghost use Rattle.rectangle_pack_c.specs.Sessions.{PacksCollection};
 ghost use Rattle.rectangle_pack_c.specs.private.Written.{AreWritten, NewAreWritten};
 
+mod bounding;
 mod collection;
 mod cutting;
+mod finding;
 mod fitting;
 mod handle;
 mod judging;
+mod pieces;
 mod placing;
 mod reading;
 mod restoring;
+mod searching;
 mod session;
+mod standing;
+mod telling;
 #[cfg(test)]
 mod tests;
+mod turning;
 mod upkeep;
 
 use collection::{RP_BEST, RP_VOLUME, RpCollection, collection_of, fault, number_of, pack_asked};
@@ -96,7 +103,7 @@ pub const RP_SHORT_ARRAY: u32 = 8;
 pub const RP_NO_PLAN: u32 = 9;
 /// There is no heuristic of this number.
 pub const RP_UNKNOWN_HEURISTIC: u32 = 10;
-/// A member names a box that is not there.
+/// A member names a box that is not there, or a step a box or a member.
 pub const RP_UNKNOWN_BOX: u32 = 11;
 /// A group is excluded with itself.
 pub const RP_EQUAL_GROUPS: u32 = 12;
@@ -114,6 +121,10 @@ pub const RP_NOT_FROM_CUTS: u32 = 17;
 pub const RP_WRONG_PARTS: u32 = 18;
 /// A box is outside the bin, or two share a cell.
 pub const RP_WRONG_BOXES: u32 = 19;
+/// A step cannot be done. Which is the first, and why, is written.
+pub const RP_STEP_REFUSED: u32 = 20;
+/// The options have another size than `RpSearchOptions`.
+pub const RP_UNKNOWN_OPTIONS: u32 = 21;
 
 // There are fewer bins and boxes than this, so that each index and their count is of 32 bits.
 const LIMIT: usize = 0x1_0000_0000;

@@ -1,17 +1,17 @@
-//! What C reads of a session: the free sections and the cutting plan of a bin, the outstanding
-//! placements, the bins. Each list goes to an array of the caller's.
-ghost use Rattle.std.specs.Prelude.{◌≡◌, ◌<◌, ℕ, IsSome, IfSome, AllPairs, map};
+//! What C reads of a session: the free sections and the cutting plan of a bin, the bins. Each list
+//! goes to an array of the caller's.
+ghost use Rattle.std.specs.Prelude.{◌≡◌, ℕ, IsSome, IfSome, map};
 ghost use Rattle.std.specs.List.Sorted.{IsStrictlySortedBy};
 ghost use Rattle.std.specs.Map.{keys_of};
 ghost use Rattle.std.specs.Ordering.{nat_cmp};
 ghost use Rattle.rectangle_pack.specs.Session.{State};
-ghost use Rattle.rectangle_pack_c.specs.Reading.{Tells, TellsSections, TellsCoalesced, TellsPlan, TellsSize, standing_of};
+ghost use Rattle.rectangle_pack_c.specs.Reading.{Tells, TellsSections, TellsCoalesced, TellsPlan, TellsSize};
 ghost use Rattle.rectangle_pack.specs.CutPlans.{axis_rank};
 
 use super::handle::RpSession;
 use super::session::refusal;
 use super::{RP_DONE, RP_NO_PLAN, RP_SHORT_ARRAY, RP_UNKNOWN_BIN, RpBin, Written};
-use rectangle_pack::{Axis, BinSection, CutStep, Outstanding, Session};
+use rectangle_pack::{Axis, BinSection, CutStep, Session};
 use std::alloc::Global;
 
 /// A free section of a bin: its corner with the least coordinates, and its sides.
@@ -30,21 +30,6 @@ pub struct RpSection {
     pub height: u32,
     /// The depth.
     pub depth: u32,
-}
-
-/// An outstanding placement: its number, its box, and where it stands.
-#[repr(C)]
-#[derive(Clone, Copy)]
-pub struct RpStanding {
-    /// Its number, by which it is released.
-    pub number: u64,
-    /// The index of its box among those of the call that packed it; of a member, the number of
-    /// boxes and its own index; of a box that was placed at a location, 0.
-    pub index: u32,
-    /// The id of its bin.
-    pub bin: u32,
-    /// Where it is in the bin.
-    pub section: RpSection,
 }
 
 /// A step of a cutting plan: a cut, or that a part is not cut.
@@ -75,29 +60,6 @@ impl Written<BinSection> for RpSection {
             width: whd.width(),
             height: whd.height(),
             depth: whd.depth(),
-        }
-    }
-}
-
-impl Written<Outstanding<u32, u32>> for RpStanding {
-    ghost use Rattle.rectangle_pack_c.specs.Reading.{standing_of};
-
-    ghost written = { standing_of };
-
-    fn of(outstanding: &Outstanding<u32, u32>) -> Self {
-        let location = outstanding.location;
-        RpStanding {
-            number: outstanding.number,
-            index: outstanding.id,
-            bin: outstanding.bin,
-            section: RpSection {
-                x: location.x(),
-                y: location.y(),
-                z: location.z(),
-                width: location.width(),
-                height: location.height(),
-                depth: location.depth(),
-            },
         }
     }
 }
@@ -189,34 +151,6 @@ fn tell_sections(
         return RP_UNKNOWN_BIN;
     };
     tell(found.available_bin_sections().as_slice(), sections, count)
-}
-
-/// Writes the outstanding placements of all bins to an array, in the order of their numbers, and
-/// how many they are. `RP_DONE`, or `RP_SHORT_ARRAY` where there are more than the array holds, and
-/// then only their number is written. Takes no memory, and leaves the session as it was.
-#[unsafe(no_mangle)]
-pub extern "C" fn rectangle_pack_session_outstanding(
-    alloc: Global,
-    session: &mut RpSession,
-    placements: &mut [RpStanding],
-    count: &mut usize,
-) -> u32
-    requires made { IsSome session.old.state }
-    // How many placements are outstanding is written, and they stand in the array, in the session's
-    //   order, each with its box, its bin and where it is, exactly where it holds as many:
-    //   `RP_DONE`, or else `RP_SHORT_ARRAY`. [tell.count_is_the_length_of_the_array,
-    //   of.index_is_the_bin]
-    ensures told { IfSome session.old.state (λ (state : State ℕ ℕ).
-        Tells (map standing_of state.outstanding) result placements.old placements.new count.new) }
-    // Their numbers rise.
-    ensures rising { IfSome session.old.state (λ (state : State ℕ ℕ).
-        AllPairs (λ a b. a.number < b.number) state.outstanding) }
-    ensures unchanged { session.new.state ≡ session.old.state }
-{
-    let held = session.take(alloc);
-    let answer = tell(held.outstanding(), placements, count);
-    *session = RpSession::of(held);
-    answer
 }
 
 /// Writes 1 where a bin's sections were joined, by either call, since it was added or last cleared,

@@ -6,11 +6,12 @@ ghost use Rattle.std.specs.Ordering.{nat_cmp};
 ghost use Rattle.rectangle_pack.specs.Session.{State};
 ghost use Rattle.rectangle_pack.specs.Bins.{bins_of};
 ghost use Rattle.rectangle_pack_c.specs.Restoring.{AreCounted, IdsRise, IsFirstFallen, IsSavedFault, IsSavedSession, IsWrong, wrong_in_bin, wrong_in_sections, wrong_written};
-ghost use Rattle.rectangle_pack_c.specs.Upkeep.{box_of};
+ghost use Rattle.rectangle_pack_c.specs.Reading.{cuboid_of};
 ghost use Rattle.rectangle_pack_c.specs.private.Saved.{AreBinsSaved, IsBinPut, IsFaultOfBin, outstanding_of};
 
 use super::handle::RpSession;
-use super::reading::{RpSection, RpStanding};
+use super::reading::RpSection;
+use super::standing::RpStanding;
 use super::upkeep::location_of;
 use super::{RP_DONE, RP_OUT_OF_MEMORY, RP_WRONG_PARTS, RpBin};
 use rectangle_pack::{
@@ -279,7 +280,7 @@ fn insert(bins: &mut BTreeMap<u32, TargetBin>, id: u32, made: TargetBin) -> Resu
 
 // The boxes that are saved so.
 pub(crate) fn sections_of(alloc: Global, saved: &[RpSection]) -> Result<Vec<BinSection>, AllocError>
-    ensures { IfOk result (λ sections. sections.items ≡ map box_of saved.now) }
+    ensures { IfOk result (λ sections. sections.items ≡ map cuboid_of saved.now) }
 {
     let mut sections = Vec::new(alloc);
     for one in saved {
@@ -290,7 +291,7 @@ pub(crate) fn sections_of(alloc: Global, saved: &[RpSection]) -> Result<Vec<BinS
 
 // The box that is saved so.
 fn section_of(saved: &RpSection) -> BinSection
-    ensures { result ≡ box_of saved.now }
+    ensures { result ≡ cuboid_of saved.now }
 {
     let size = RectToInsert::new(saved.width, saved.height, saved.depth);
     BinSection::new(saved.x, saved.y, saved.z, size.into())

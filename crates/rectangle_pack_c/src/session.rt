@@ -353,7 +353,7 @@ pub extern "C" fn rectangle_pack_session_stats(
 }
 
 // The two parts of a volume.
-fn parted(cells: u128) -> RpVolume
+pub(crate) fn parted(cells: u128) -> RpVolume
     ensures { volume result ≡ cells }
 {
     RpVolume {

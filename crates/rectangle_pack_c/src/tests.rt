@@ -6,16 +6,21 @@ use super::{
 use std::alloc::Global;
 use std::test::Fail;
 
+mod bounding;
 mod collection;
 mod cutting;
 mod fitting;
 mod judging;
 mod large;
 mod memory;
+mod pieces;
 mod placing;
 mod reading;
 mod restoring;
+mod searching;
 mod session;
+mod telling;
+mod turning;
 mod upkeep;
 
 const NOWHERE: RpPlacement = RpPlacement {

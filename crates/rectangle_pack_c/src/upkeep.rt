@@ -6,7 +6,8 @@ ghost use Rattle.rectangle_pack.specs.CutPlans.{axis_rank};
 ghost use Rattle.rectangle_pack.specs.Recutting.{Recuts};
 ghost use Rattle.rectangle_pack.specs.Upkeep.{Clears, RemovesBin};
 ghost use Rattle.rectangle_pack_c.specs.Sessions.{ChangesAs};
-ghost use Rattle.rectangle_pack_c.specs.Upkeep.{GrowsOnAxis, PlacesSection, box_of};
+ghost use Rattle.rectangle_pack_c.specs.Upkeep.{GrowsOnAxis, PlacesSection};
+ghost use Rattle.rectangle_pack_c.specs.Reading.{cuboid_of};
 
 use super::handle::RpSession;
 use super::reading::RpSection;
@@ -165,7 +166,7 @@ pub extern "C" fn rectangle_pack_session_place_at(
 
 // The location of a section.
 pub(crate) fn location_of(section: &RpSection) -> PackedLocation
-    ensures { result ≡ box_of section.now }
+    ensures { result ≡ cuboid_of section.now }
 {
     let size = RectToInsert::new(section.width, section.height, section.depth);
     PackedLocation::new(section.x, section.y, section.z, size.into())

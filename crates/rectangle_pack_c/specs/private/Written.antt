@@ -3,8 +3,10 @@ use Rattle.std.specs.Prelude.{◌≡◌, ◌≢◌, ℕ, ◌<◌, List, All, Som
 use Rattle.rectangle_pack.specs.declared.session.command.Outstanding.{Outstanding}
 use Rattle.rectangle_pack.specs.Session.{State}
 use Rattle.rectangle_pack_c.specs.declared.RpPlacement.{RpPlacement}
+use Rattle.rectangle_pack_c.specs.declared.searching.RpLocation.{RpLocation}
 use Rattle.rectangle_pack_c.specs.declared.session.RpOutstanding.{RpOutstanding}
 use Rattle.rectangle_pack_c.specs.Answers.{corner_of}
+use Rattle.rectangle_pack_c.specs.Reading.{section_of}
 
 -- what is written of an outstanding placement
 abbrev pub as_placement : Outstanding ℕ ℕ → RpPlacement
@@ -13,6 +15,10 @@ as_placement o = corner_of o.bin o.location
 -- what is written of an outstanding placement, its number too
 abbrev pub as_outstanding : Outstanding ℕ ℕ → RpOutstanding
 as_outstanding o = record { number = o.number; placement = as_placement o }
+
+-- what is written of an outstanding placement, in its size as it stands
+abbrev pub as_location : Outstanding ℕ ℕ → RpLocation
+as_location o = record { bin = o.bin; section = section_of o.location }
 
 -- each outstanding placement is written at the index of its box
 abbrev pub AreWritten : {X : Type 0} → (Outstanding ℕ ℕ → X) → List (Outstanding ℕ ℕ) → List X → Type 0

@@ -22,15 +22,15 @@ const NOT_FITTED: RpFitted = RpFitted {
     left: 99,
 };
 
-const LEFT: [u32; 4] = [RP_LEFT_BIN, 0, 0, 0];
+pub(super) const LEFT: [u32; 4] = [RP_LEFT_BIN, 0, 0, 0];
 
-const UNWRITTEN: [u32; 4] = [9, 9, 9, 9];
+pub(super) const UNWRITTEN: [u32; 4] = [9, 9, 9, 9];
 
 // What is answered: the status, the heuristic, and how many boxes are left.
 pub(super) type Answer = (u32, u32, usize);
 
 // A flat box of a group.
-fn flat(width: u32, height: u32, group: u32) -> RpBox {
+pub(super) fn flat(width: u32, height: u32, group: u32) -> RpBox {
     RpBox {
         width,
         height,

@@ -1,9 +1,10 @@
 //! Memory: what calls take for themselves, and for a session until it is freed, is given back. How
 //! much the process has is read from the system.
+use super::bounding::in_strip;
 use super::collection::two_strips;
 use super::fitting::square_and_strip;
 use super::session::{opens, pack, release_and_join};
-use super::{SHEET, strip_in};
+use super::{SHEET, STRIP, strip_in};
 use crate::RP_DONE;
 use crate::collection::{RP_BEST, RpExclusion, RpMember};
 use crate::handle::RpSession;
@@ -33,13 +34,15 @@ fn session_comes_and_goes(alloc: Global) -> bool {
     (first, second, others) == (RP_DONE, RP_DONE, [RP_DONE, RP_DONE])
 }
 
-// Whether boxes and a collection are packed, and what fits of another.
+// Whether boxes and a collection are packed, and what fits of another, and whether it is said how
+// many bins a box needs.
 fn are_packed(alloc: Global) -> bool {
     let (boxes, _) = strip_in(alloc, [SHEET].as_slice());
     let member = RpMember { index: 0, group: 2 };
     let (collection, _, _) = two_strips(alloc, member, RpExclusion { one: 2, other: 1 });
     let ((fitting, _, _), _) = square_and_strip(alloc, RP_BEST);
-    [boxes, collection, fitting] == [RP_DONE, RP_DONE, RP_DONE]
+    let (bound, _) = in_strip(alloc, STRIP, [4].as_slice());
+    [boxes, collection, fitting, bound] == [RP_DONE; 4]
 }
 
 // Whether both are done, `times` times.

@@ -5,13 +5,16 @@ ghost use Rattle.std.specs.Prelude.{IsSome};
 use super::session::{opens, pack};
 use crate::handle::RpSession;
 use crate::reading::{
-    RP_LEAF, RpCutStep, RpSection, RpStanding, rectangle_pack_session_bins,
-    rectangle_pack_session_cut_plan, rectangle_pack_session_free_sections,
-    rectangle_pack_session_next_number, rectangle_pack_session_outstanding,
+    RP_LEAF, RpCutStep, RpSection, rectangle_pack_session_bins, rectangle_pack_session_cut_plan,
+    rectangle_pack_session_free_sections, rectangle_pack_session_next_number,
     rectangle_pack_session_was_coalesced,
 };
 use crate::session::{
-    rectangle_pack_session_coalesce, rectangle_pack_session_free, rectangle_pack_session_release,
+    rectangle_pack_session_add_bin, rectangle_pack_session_coalesce, rectangle_pack_session_free,
+    rectangle_pack_session_release,
+};
+use crate::standing::{
+    RpStanding, rectangle_pack_session_outstanding, rectangle_pack_session_outstanding_in,
 };
 use crate::{RP_DONE, RP_SHORT_ARRAY, RP_UNKNOWN_BIN};
 use std::alloc::Global;
@@ -184,6 +187,60 @@ fn short_arrays_stay(rt: HostRuntime) -> Result<(), Fail> {
         (RP_SHORT_ARRAY, 3, [[9, 9], [9, 9], [9, 9]]),
     );
     assert_eq!(rt; lists, want);
+    rectangle_pack_session_free(alloc, &mut session);
+    Ok(())
+}
+
+// What is answered where the outstanding placements of a bin go to an array of `room` entries, at
+// most two: the status, the count, and of each entry the number, the box and the bin.
+fn standing_in(
+    alloc: Global,
+    session: &mut RpSession,
+    bin: u32,
+    room: usize,
+) -> (u32, usize, [(u64, u32, u32); 2])
+    requires { IsSome session.old.state }
+    ensures { IsSome session.new.state }
+{
+    let mut told = [NOBODY; 2];
+    let mut count = 99;
+    let array = &mut told[..room.min(2)];
+    let status = rectangle_pack_session_outstanding_in(alloc, session, bin, array, &mut count);
+    let entries = told.map(|one| (one.number, one.index, one.bin));
+    (status, count, entries)
+}
+
+const NO_ONE: (u64, u32, u32) = (99, 99, 99);
+
+// Strips of the widths 4, 8 and 6 are packed into two sheets. Beside the first there is no room for
+// the second, but for the third.
+#[test]
+fn placements_of_one_bin_are_read(rt: HostRuntime) -> Result<(), Fail> {
+    let alloc = rt.alloc();
+    let mut session = RpSession::none(alloc);
+    assert!(rt; opens(alloc, &mut session));
+    let added = rectangle_pack_session_add_bin(alloc, &mut session, 8, 10, 10, 1);
+    assert_eq!(rt; added, RP_DONE);
+    pack(alloc, &mut session, 4);
+    pack(alloc, &mut session, 8);
+    pack(alloc, &mut session, 6);
+    let (first, third) = ((0, 0, 7), (2, 0, 7));
+    let told = [
+        standing_in(alloc, &mut session, 7, 2),
+        standing_in(alloc, &mut session, 7, 1),
+        standing_in(alloc, &mut session, 8, 2),
+        standing_in(alloc, &mut session, 9, 2),
+    ];
+    let want = [
+        (RP_DONE, 2, [first, third]),
+        (RP_SHORT_ARRAY, 2, [NO_ONE, NO_ONE]),
+        (RP_DONE, 1, [(1, 0, 8), NO_ONE]),
+        (RP_UNKNOWN_BIN, 99, [NO_ONE, NO_ONE]),
+    ];
+    assert_eq!(rt; told, want);
+    rectangle_pack_session_release(alloc, &mut session, 1);
+    let none = standing_in(alloc, &mut session, 8, 0);
+    assert_eq!(rt; none, (RP_DONE, 0, [NO_ONE, NO_ONE]));
     rectangle_pack_session_free(alloc, &mut session);
     Ok(())
 }

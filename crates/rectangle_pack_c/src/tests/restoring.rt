@@ -7,8 +7,8 @@ use super::reading::{REST, STRIP, outstanding, sections};
 use super::session::{opens, pack};
 use crate::handle::RpSession;
 use crate::reading::{
-    RpSection, RpStanding, rectangle_pack_session_bin_size, rectangle_pack_session_free_sections,
-    rectangle_pack_session_next_number, rectangle_pack_session_outstanding,
+    RpSection, rectangle_pack_session_bin_size, rectangle_pack_session_free_sections,
+    rectangle_pack_session_next_number,
 };
 use crate::restoring::{
     RP_WRONG_CELL_IN_NONE, RP_WRONG_CUTS, RP_WRONG_IDS, RP_WRONG_NEXT, RP_WRONG_NUMBER,
@@ -16,6 +16,7 @@ use crate::restoring::{
     RpSavedBin, RpWrong, rectangle_pack_session_restore,
 };
 use crate::session::rectangle_pack_session_free;
+use crate::standing::{RpStanding, rectangle_pack_session_outstanding};
 use crate::{RP_DONE, RP_UNKNOWN_BIN, RP_WRONG_PARTS, RpBin};
 use std::alloc::Global;
 use std::test::Fail;

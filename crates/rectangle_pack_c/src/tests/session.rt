@@ -151,7 +151,7 @@ fn refusals_are_named(rt: HostRuntime) -> Result<(), Fail> {
 }
 
 // Takes only what may go to another thread.
-fn sent<T: Send>(value: T) -> T
+pub(super) fn sent<T: Send>(value: T) -> T
     ensures { result ≡ value }
 {
     value

@@ -4,7 +4,7 @@ use Rattle.rectangle_pack_c.specs.declared.RpBox.{RpBox}
 use Rattle.rectangle_pack_c.specs.Collections.{all_boxes, IsCollected}
 use Rattle.rectangle_pack_c.proofs.FaultLemmas.{sound, no_boxes}
 use Rattle.rectangle_pack_c.proofs.SessionLemmas.{no_groups, new_entries, new_part}
-use Rattle.rectangle_pack_c.proofs.FittedLemmas.{fit_ids, fit_once, fit_records_are, refused_fit}
+use Rattle.rectangle_pack_c.proofs.FittedLemmas.{fit_ids, fit_once, fit_records_are, kept_fitting, refused_fit}
 use Rattle.rectangle_pack_c.proofs.fitting.fit_into.Goals as goal
 
 pub collection_of-requires : goal.collection_of-requires
@@ -41,10 +41,11 @@ write_among-requires-clause-within g c =
     let best = c.in_ok-best in
     let left = names_left best._fitted.left in
     let new = c.fit_asked.new.session in
-    let are = fit_records_are boxes pairs all.rects all.ensures.collected best.best left c.args.session.now new best.ensures.promise in
+    let kept = kept_fitting best.best all.rects left c.args.session.now new best.ensures.promise in
+    let are = fit_records_are boxes pairs all.rects all.ensures.collected left c.args.session.now new kept in
     let few = sound c.args.collection.now c.args.heuristic (length c.args.placements.now) c.requires.sound in
     rw (c.outstanding-known.ensures.outstanding, new_part _ _ _ (c.outstanding.ensures.outstanding ∙ are), few.as_many)
-    (fit_ids boxes pairs all.rects all.ensures.collected best.best left c.args.session.now new best.ensures.promise)
+    (fit_ids boxes pairs all.rects all.ensures.collected left c.args.session.now new kept)
 
 pub write_among-requires-clause-once : goal.write_among-requires-clause-once
 write_among-requires-clause-once g c =
@@ -54,9 +55,10 @@ write_among-requires-clause-once g c =
     let best = c.in_ok-best in
     let left = names_left best._fitted.left in
     let new = c.fit_asked.new.session in
-    let are = fit_records_are boxes pairs all.rects all.ensures.collected best.best left c.args.session.now new best.ensures.promise in
+    let kept = kept_fitting best.best all.rects left c.args.session.now new best.ensures.promise in
+    let are = fit_records_are boxes pairs all.rects all.ensures.collected left c.args.session.now new kept in
     rw (c.outstanding-known.ensures.outstanding, new_part _ _ _ (c.outstanding.ensures.outstanding ∙ are))
-    (fit_once boxes pairs all.rects all.ensures.collected best.best left c.args.session.now new best.ensures.promise)
+    (fit_once boxes pairs all.rects all.ensures.collected left c.args.session.now new kept)
 
 pub returns-clause-written : goal.returns-clause-written
 returns-clause-written g c =
@@ -66,7 +68,8 @@ returns-clause-written g c =
     let best = c.in_ok-best in
     let left = names_left best._fitted.left in
     let new = c.fit_asked.new.session in
-    let are = fit_records_are boxes pairs all.rects all.ensures.collected best.best left c.args.session.now new best.ensures.promise in
+    let kept = kept_fitting best.best all.rects left c.args.session.now new best.ensures.promise in
+    let are = fit_records_are boxes pairs all.rects all.ensures.collected left c.args.session.now new kept in
     rw (new_entries _ _ _ are)
     (rw (c.outstanding-known.ensures.outstanding, new_part _ _ _ (c.outstanding.ensures.outstanding ∙ are)) at c.write_among.ensures)
 

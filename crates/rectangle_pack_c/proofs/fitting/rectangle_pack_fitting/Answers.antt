@@ -2,6 +2,7 @@ use Rattle.rectangle_pack_c.proofs.Std.{◌∙◌, arith, length, refl, rules, s
 use Rattle.rectangle_pack_c.specs.Collections.{all_boxes}
 use Rattle.rectangle_pack_c.proofs.FaultLemmas.{sound}
 use Rattle.rectangle_pack_c.proofs.FittedLemmas.{IsFitAnswered, fit_answered}
+use Rattle.rectangle_pack_c.proofs.OneFitLemmas.{one_answer}
 use Rattle.rectangle_pack_c.proofs.fitting.rectangle_pack_fitting.Goals as goal
 
 pub returns-then-bins-ge-LIMIT : goal.returns-then-bins-ge-LIMIT
@@ -9,6 +10,7 @@ returns-then-bins-ge-LIMIT c = record {
   faults = search rules;
   unchanged = λ other. (refl, refl);
   packed = λ is. absurd (omega (arith, is));
+  one_packing = λ is. absurd (omega (arith, is));
   done = λ is. absurd (omega (arith, is));
   apart = λ is. absurd (omega (arith, is));
 }
@@ -26,6 +28,11 @@ all_said c =
 
 pub returns-in-Ok-fit_into-clause-packed : goal.returns-in-Ok-fit_into-clause-packed
 returns-in-Ok-fit_into-clause-packed c = λ _. (all_said c).packed
+
+pub returns-in-Ok-fit_into-clause-one_packing : goal.returns-in-Ok-fit_into-clause-one_packing
+returns-in-Ok-fit_into-clause-one_packing c = λ _.
+    one_answer c.args.heuristic c.args.bins.now (all_boxes c.args.collection.now) c.args.collection.now.exclusions.now c.fit_into.new.placements
+    (record { heuristic = c.in-Ok-fit_into.best; left = c.left_among.result }) (all_said c).packed
 
 pub returns-in-Ok-fit_into-clause-done : goal.returns-in-Ok-fit_into-clause-done
 returns-in-Ok-fit_into-clause-done c = λ _. (all_said c).done
