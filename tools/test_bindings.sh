@@ -20,6 +20,12 @@ run_harness() {
     "$work/$1"
 }
 
+# test_hpp NAME FLAG..: a test of the header for C++17.
+test_hpp() {
+    c++ "${@:2}" "${strict[@]}" "bindings/cpp/tests/$1.cpp" "$link" -Wl,--wrap=malloc,--wrap=realloc -o "$work/$1_hpp"
+    "$work/$1_hpp"
+}
+
 tools/build_c.sh
 # Where there is a packrun, it is built anew only where a source is newer.
 if [[ -x crates/packrun/out/packrun ]]; then
@@ -40,7 +46,7 @@ if have cc C; then
         cc -std=c99 "${flags[@]}" "bindings/c/examples/$it.c" "$link" -o "$work/${it}_c"
         "$work/${it}_c" >"$work/$it.txt"
     done
-    for it in harness session_harness fitting_harness; do
+    for it in harness session_harness fitting_harness told_harness search_harness; do
         run_harness "$it"
         run_harness "$it" -fsanitize=address,undefined -fno-sanitize-recover=all
     done
@@ -58,12 +64,14 @@ if have c++ C++; then
         c++ -std=c++17 "${strict[@]}" "bindings/cpp/examples/$it.cpp" "$link" -o "$work/${it}_hpp"
         "$work/${it}_hpp" | diff - "$work/$it.txt"
     done
-    for it in -std=c++20 "-std=c++17 -g -fsanitize=address,undefined -fno-sanitize-recover=all"; do
-        # shellcheck disable=SC2086 # These are words.
-        c++ $it "${strict[@]}" bindings/cpp/tests/test.cpp "$link" -Wl,--wrap=malloc,--wrap=realloc -o "$work/test_hpp"
-        "$work/test_hpp"
+    sanitized=(-g "-fsanitize=address,undefined" -fno-sanitize-recover=all)
+    for it in test searches; do
+        test_hpp "$it" -std=c++20
+        test_hpp "$it" -std=c++17 "${sanitized[@]}"
     done
-    echo "C++: the examples print what they print in C, and the header for C++17 passes its test, also under the sanitizers"
+    test_hpp no_exceptions -std=c++20 -fno-exceptions
+    test_hpp no_exceptions -std=c++17 -fno-exceptions "${sanitized[@]}"
+    echo "C++: the examples print what they print in C, and the header for C++17 passes its tests, also under the sanitizers"
 fi
 if have cargo Rust; then
     cargo=(--offline --manifest-path bindings/rust/Cargo.toml --target-dir "$work/rust")

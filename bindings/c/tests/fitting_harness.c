@@ -118,7 +118,7 @@ static void fit_in_session(uint32_t heuristic, tally *sums)
 /* By volume: two boxes of one group, that do not go into the bin together; a box as high as the bin; a box of group 2, beside it; and
    two of group 3, which is excluded with group 2, one of them a member. */
 static const request by_hand = {
-    {{6, 10, 1, 1}, {6, 10, 1, 1}, {4, 10, 1, 0}, {2, 2, 1, 2}, {1, 1, 1, 3}}, {{4, 3}}, {{3, 2}}, 5, 1, 1, 6, RP_VOLUME};
+    {{6, 10, 1, 1}, {6, 10, 1, 1}, {4, 10, 1, 0}, {2, 2, 1, 2}, {1, 1, 1, 3}}, {{4, 3}}, {{3, 2}}, 5, 1, 1, 6, RP_VOLUME, {{0, 0, 0}}, 0};
 
 static void check_left(const rp_placement *it)
 {

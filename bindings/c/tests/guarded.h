@@ -13,7 +13,7 @@
 /* The lists of a call, each of which has pages of its own, and how many bytes it may have. */
 enum list {
     BINS_LIST, BOXES_LIST, MEMBERS_LIST, EXCLUSIONS_LIST, COLLECTION, PLACEMENTS_LIST, CHOSEN, NUMBERS_LIST, STEPS_LIST, COUNT, WRONG,
-    LISTS
+    TURNS_LIST, COSTS_LIST, OPTIONS, LISTS
 };
 
 enum { LIST_ROOM = 1 << 14 };

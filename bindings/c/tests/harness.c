@@ -65,7 +65,9 @@ static const input several = {
      4,
      2,
      9,
-     RP_VOLUME}};
+     RP_VOLUME,
+     {{0, 0, 0}},
+     0}};
 
 static const rp_placement places_of_several[] = {{1, 0, 0, 0}, {0, 0, 0, 0}, {1, 4, 0, 0}, {1, 6, 3, 0}, {1, 4, 7, 0},
                                                  {0, 4, 0, 0}, {1, 6, 0, 0}, {1, 0, 4, 0}, {1, 4, 4, 0}};
@@ -83,7 +85,10 @@ static void check_several(void)
 static void check_best(void)
 {
     reply said;
-    input it = {ALL_OF_IT, {{4, 4, 1}}, 1, {{{1, 3, 1, 0}, {3, 2, 1, 0}, {3, 1, 1, 0}}, {{0, 0}}, {{0, 0}}, 3, 0, 0, 3, RP_BEST}};
+    input it = {ALL_OF_IT,
+                {{4, 4, 1}},
+                1,
+                {{{1, 3, 1, 0}, {3, 2, 1, 0}, {3, 1, 1, 0}}, {{0, 0}}, {{0, 0}}, 3, 0, 0, 3, RP_BEST, {{0, 0, 0}}, 0}};
     check(call_once(&it, NONE, NONE, &said) == RP_DONE && said.chosen == RP_HEIGHT, "the best heuristic is another one");
     check(attempt(&it) == RP_DONE, "the best heuristic finds no space");
     for (it.asked.heuristic = 0; it.asked.heuristic < HEURISTICS; it.asked.heuristic++)
@@ -97,7 +102,7 @@ static void check_best(void)
 /* Two boxes of one bin go into two where their groups are excluded. */
 static void check_excluded(void)
 {
-    input it = {ALL_OF_IT, {{9, 9, 1}}, 1, {{{4, 4, 1, 1}, {4, 4, 1, 2}}, {{0, 0}}, {{1, 2}}, 2, 0, 0, 2, RP_BEST}};
+    input it = {ALL_OF_IT, {{9, 9, 1}}, 1, {{{4, 4, 1, 1}, {4, 4, 1, 2}}, {{0, 0}}, {{1, 2}}, 2, 0, 0, 2, RP_BEST, {{0, 0, 0}}, 0}};
     check(attempt(&it) == RP_DONE, "two boxes are not packed");
     it.asked.exclusion_count = 1;
     check(attempt(&it) == RP_NOT_ENOUGH_SPACE, "excluded groups are in one bin");
@@ -105,7 +110,7 @@ static void check_excluded(void)
     check(attempt(&it) == RP_DONE, "excluded groups are not packed into two bins");
 }
 
-/* Of several things that are wrong the first is answered, whether all is to be packed or what fits. */
+/* Of several things that are wrong the first is answered, whether all is to be packed, what fits, or what steps name. */
 static void check_faults(enum way way)
 {
     static const uint32_t faults[] = {RP_BAD_LENGTHS, RP_UNKNOWN_HEURISTIC, RP_UNKNOWN_BOX, RP_EQUAL_GROUPS};
@@ -114,6 +119,7 @@ static void check_faults(enum way way)
         it.way = way;
         it.asked.places -= wrong & 1;
         it.asked.heuristic = wrong & 2 ? HEURISTICS : RP_BEST;
+        it.asked.steps[it.asked.step_count++] = (rp_step){0, 0, wrong & 2 ? RP_BEST : RP_VOLUME};
         if (wrong & 4)
             it.asked.members[3].index = 5;
         if (wrong & 8)
@@ -192,6 +198,7 @@ int main(void)
     check_excluded();
     check_faults(ALL_OF_IT);
     check_faults(WHAT_FITS);
+    check_faults(AS_TOLD);
     check_long_lists();
     check_readme();
     check_bad_lengths();

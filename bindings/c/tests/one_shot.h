@@ -3,20 +3,14 @@
 #ifndef ONE_SHOT_H
 #define ONE_SHOT_H
 
-#include "packing_calls.h"
+#include "one_shot_bins.h"
 
-/* A call, by what it packs. */
-typedef struct input {
-    enum way way;
-    rp_bin bins[BINS];
-    size_t bin_count;
-    request asked;
-} input;
-
-/* What it answered; untouched where nothing was written. How many are left is written by calls that pack what fits. */
+/* What it answered; untouched where nothing was written. How many are left is written by calls that pack what fits, and which step
+   is refused by those that pack as they are told. */
 typedef struct reply {
     uint32_t status, chosen;
     size_t left;
+    rp_refused refused;
     rp_placement placed[ENTRIES + 1];
 } reply;
 
@@ -50,6 +44,18 @@ static uint32_t call_for_what_fits(const input *it, const rp_bin *bins, const rp
     return status;
 }
 
+static uint32_t call_as_told(const input *it, const rp_bin *bins, const rp_collection *all, rp_placement *placed, reply *said)
+{
+    const request *asked = &it->asked;
+    const rp_step *steps = guarded_steps(asked);
+    rp_refused *refused = guarded_untouched(CHOSEN, sizeof *refused);
+    uint32_t status = rectangle_pack_told(bins, it->bin_count, all, steps, asked->step_count, placed, asked->places, refused);
+    check_told(status, placed, asked->places * sizeof *placed, refused);
+    check(!memcmp(steps, asked->steps, asked->step_count * sizeof *steps), "steps are changed");
+    said->refused = *refused;
+    return status;
+}
+
 static void perform_once(const input *it, reply *said)
 {
     const rp_bin *bins = guarded_copy(BINS_LIST, it->bins, it->bin_count * sizeof *bins);
@@ -57,7 +63,8 @@ static void perform_once(const input *it, reply *said)
     size_t size = it->asked.places * sizeof *said->placed;
     rp_placement *placed = guarded_untouched(PLACEMENTS_LIST, size);
     memset(said, UNTOUCHED, sizeof *said);
-    said->status = (it->way == WHAT_FITS ? call_for_what_fits : call_for)(it, bins, all, placed, said);
+    said->status = (it->way == AS_TOLD ? call_as_told : it->way == WHAT_FITS ? call_for_what_fits : call_for)(it, bins, all, placed,
+                                                                                                       said);
     check_kept(&it->asked, all);
     check(!memcmp(bins, it->bins, it->bin_count * sizeof *bins), "bins are changed");
     memcpy(said->placed, placed, size);
@@ -81,18 +88,15 @@ static void reply_by_rule(const input *it, reply *right)
 {
     static shelf bins;
     static packing best;
-    bins.count = it->bin_count;
-    for (size_t i = 0; i < bins.count; i++) {
-        bins.ids[i] = (uint32_t)i;
-        bins.sizes[i] = it->bins[i];
-        bins.free[i].list[0] = whole_of(&it->bins[i]);
-        bins.free[i].count = 1;
-    }
+    shelve_bins(&bins, it);
     memset(right, UNTOUCHED, sizeof *right);
     right->status = answer_of(&it->asked, it->way, &bins, &best);
+    if (right->status == RP_STEP_REFUSED)
+        right->refused = best.refused;
     if (right->status != RP_DONE)
         return;
-    right->chosen = best.heuristic;
+    if (it->way != AS_TOLD)
+        right->chosen = best.heuristic;
     if (it->way == WHAT_FITS)
         right->left = left_by(&best);
     for (size_t i = 0; i < best.count; i++) {
@@ -101,14 +105,6 @@ static void reply_by_rule(const input *it, reply *right)
         if (now->is_left)
             right->placed[i] = (rp_placement){RP_LEFT_BIN, 0, 0, 0};
     }
-}
-
-/* A box, or a member as a box in its group. */
-static rp_box box_of(const request *it, size_t i)
-{
-    rp_box box = it->boxes[i < it->box_count ? i : it->members[i - it->box_count].index];
-    box.group = group_of(it, i);
-    return box;
 }
 
 /* Each box that is not left is inside its bin, and no two share a cell; groups are together, and those that are excluded are apart. */
@@ -122,7 +118,7 @@ static void check_placed(const input *it, const reply *said)
         rp_box box = box_of(&it->asked, i);
         rp_section at = section_at(&said->placed[i], &box);
         bins[i] = said->placed[i].bin;
-        if (it->way == WHAT_FITS && bins[i] == RP_LEFT_BIN) {
+        if (it->way >= WHAT_FITS && bins[i] == RP_LEFT_BIN) {
             left++;
             continue;
         }
@@ -136,7 +132,7 @@ static void check_placed(const input *it, const reply *said)
 static int are_same_replies(const reply *one, const reply *other)
 {
     return one->status == other->status && one->chosen == other->chosen && one->left == other->left &&
-           !memcmp(one->placed, other->placed, sizeof one->placed);
+           are_same_steps(&one->refused, &other->refused) && !memcmp(one->placed, other->placed, sizeof one->placed);
 }
 
 /* The answer is what the header promises, and that of the rule. */
@@ -146,6 +142,7 @@ static void check_reply(const input *it, const reply *right, const reply *said)
         check_placed(it, said);
     check(said->status == right->status, "the status is not that of the rule");
     check(said->chosen == right->chosen, "the heuristic is not that of the rule");
+    check(are_same_steps(&said->refused, &right->refused), "another step is refused than by the rule");
     check(are_same_replies(said, right), "the placements are not those of the rule");
 }
 

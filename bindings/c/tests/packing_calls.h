@@ -5,12 +5,12 @@
 #include "guarded.h"
 #include "packing_rule.h"
 
-enum { BOXES = 24, MEMBERS = ENTRIES - BOXES, EXCLUSIONS = 4 };
+enum { BOXES = 24, MEMBERS = ENTRIES - BOXES, EXCLUSIONS = 4, TOLD_STEPS = 8 };
 
-/* What is packed: boxes alone, all of a collection, or what fits of one. */
-enum way { BOXES_ALONE, ALL_OF_IT, WHAT_FITS };
+/* What is packed: boxes alone, all of a collection, what fits of one, or what steps name of one. */
+enum way { BOXES_ALONE, ALL_OF_IT, WHAT_FITS, AS_TOLD };
 
-/* What is asked for: a collection, a heuristic, and so many places for placements. A call that packs boxes alone is asked
+/* What is asked for: a collection, a heuristic or steps, and so many places for placements. A call that packs boxes alone is asked
    without members and exclusions, by volume. */
 typedef struct request {
     rp_box boxes[BOXES];
@@ -18,6 +18,8 @@ typedef struct request {
     rp_exclusion exclusions[EXCLUSIONS];
     size_t box_count, member_count, exclusion_count, places;
     uint32_t heuristic;
+    rp_step steps[TOLD_STEPS];
+    size_t step_count;
 } request;
 
 static size_t entries_of(const request *it)
@@ -30,16 +32,38 @@ static rp_collection collection_of(const request *it)
     return (rp_collection){it->boxes, it->box_count, it->members, it->member_count, it->exclusions, it->exclusion_count};
 }
 
+/* Whether the heuristic of a request is there, or each of its steps. */
+static int knows_heuristics(const request *it, enum way way)
+{
+    if (way != AS_TOLD)
+        return it->heuristic < HEURISTICS || it->heuristic == RP_BEST;
+    for (size_t i = 0; i < it->step_count; i++)
+        if (it->steps[i].heuristic >= HEURISTICS)
+            return 0;
+    return 1;
+}
+
+/* Whether the boxes are there that members and steps name. */
+static int knows_boxes(const request *it, enum way way)
+{
+    for (size_t i = 0; i < it->member_count; i++)
+        if (it->members[i].index >= it->box_count)
+            return 0;
+    for (size_t i = 0; way == AS_TOLD && i < it->step_count; i++)
+        if (it->steps[i].index >= entries_of(it))
+            return 0;
+    return 1;
+}
+
 /* The first thing that is wrong with a request, as a status, or RP_DONE. */
-static uint32_t fault_of(const request *it)
+static uint32_t fault_of(const request *it, enum way way)
 {
     if (it->places != entries_of(it))
         return RP_BAD_LENGTHS;
-    if (it->heuristic >= HEURISTICS && it->heuristic != RP_BEST)
+    if (!knows_heuristics(it, way))
         return RP_UNKNOWN_HEURISTIC;
-    for (size_t i = 0; i < it->member_count; i++)
-        if (it->members[i].index >= it->box_count)
-            return RP_UNKNOWN_BOX;
+    if (!knows_boxes(it, way))
+        return RP_UNKNOWN_BOX;
     for (size_t i = 0; i < it->exclusion_count; i++)
         if (it->exclusions[i].one == it->exclusions[i].other)
             return RP_EQUAL_GROUPS;
@@ -50,8 +74,12 @@ static uint32_t fault_of(const request *it)
 static uint32_t answer_of(const request *it, enum way way, shelf *bins, packing *best)
 {
     rp_collection all = collection_of(it);
-    uint32_t fault = fault_of(it);
-    return fault == RP_DONE ? follow_rule(best, &all, it->heuristic, bins, way == WHAT_FITS) : fault;
+    uint32_t fault = fault_of(it, way);
+    if (fault != RP_DONE)
+        return fault;
+    if (way == AS_TOLD)
+        return follow_steps(best, &all, it->steps, it->step_count, bins);
+    return follow_rule(best, &all, it->heuristic, bins, way == WHAT_FITS);
 }
 
 /* How many entries a packing leaves. */
@@ -93,6 +121,24 @@ static void check_written(uint32_t status, const void *placements, size_t size, 
     int is_written = status == RP_DONE;
     check(is_written || is_untouched(placements, size), "placements are written");
     check(is_written != is_untouched(chosen, size_of_chosen), "the heuristic is written, or is not");
+}
+
+/* The same of a packing as it is told: it writes which step is refused exactly where one is. */
+static void check_told(uint32_t status, const void *placements, size_t size, const rp_refused *refused)
+{
+    check(status == RP_DONE || is_untouched(placements, size), "placements are written");
+    check((status == RP_STEP_REFUSED) != is_untouched(refused, sizeof *refused), "a step that is refused is written, or is not");
+}
+
+static int are_same_steps(const rp_refused *one, const rp_refused *other)
+{
+    return one->step == other->step && one->fault == other->fault;
+}
+
+/* The steps as a call is given them. */
+static const rp_step *guarded_steps(const request *it)
+{
+    return guarded_copy(STEPS_LIST, it->steps, it->step_count * sizeof *it->steps);
 }
 
 /* The group of a box, or of a member behind the boxes. */

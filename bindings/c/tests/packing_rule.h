@@ -38,12 +38,14 @@ typedef struct entry {
     uint64_t turn;
 } entry;
 
-/* A packing of entries, first those of the boxes and then those of the members, by a heuristic. */
+/* A packing of entries, first those of the boxes and then those of the members, by a heuristic. As it is told, also the first step
+   that cannot be done. */
 typedef struct packing {
     entry entries[ENTRIES];
     size_t count;
     uint32_t heuristic;
     uint64_t placed;
+    rp_refused refused;
 } packing;
 
 /* A cut round a box at the corner of a section: the pieces right of the box, above it and behind it, and their rates. */
@@ -404,6 +406,41 @@ static uint32_t follow_rule(packing *best, const rp_collection *all, uint32_t he
     if (!is_done)
         return RP_NOT_ENOUGH_SPACE;
     copy_shelf(bins, &kept);
+    return RP_DONE;
+}
+
+/* Does a step of a packing as it is told: the whole group of an entry goes into the bin of this id. Why it cannot be done, or 0. */
+static uint32_t do_step(packing *now, const rp_collection *all, const rp_step *step, shelf *bins)
+{
+    size_t first = 0, bin = 0;
+    while (!is_of_group(now, step->index, first))
+        first++;
+    while (bin < bins->count && bins->ids[bin] != step->bin)
+        bin++;
+    if (bin == bins->count)
+        return RP_STEP_UNKNOWN_BIN;
+    if (now->entries[first].is_placed)
+        return RP_STEP_NAMED_TWICE;
+    if (is_excluded_from(all, now, first, bin))
+        return RP_STEP_EXCLUDED;
+    now->heuristic = step->heuristic;
+    return place_group(now, first, bins, bin) ? 0 : RP_STEP_NO_ROOM;
+}
+
+/* Packs as it is told; groups that no step names are left. Where it is not done the bins are as they were. */
+static uint32_t follow_steps(packing *now, const rp_collection *all, const rp_step *steps, size_t count, shelf *bins)
+{
+    static shelf after;
+    copy_shelf(&after, bins);
+    begin_packing(now, all, RP_VOLUME);
+    for (size_t i = 0; i < count; i++) {
+        now->refused = (rp_refused){i, do_step(now, all, &steps[i], &after)};
+        if (now->refused.fault)
+            return RP_STEP_REFUSED;
+    }
+    for (size_t i = 0; i < now->count; i++)
+        now->entries[i].is_left = !now->entries[i].is_placed;
+    copy_shelf(bins, &after);
     return RP_DONE;
 }
 

@@ -8,7 +8,7 @@
 
 enum kind {
     ADD_BIN, PACK, PACK_COLLECTION, RELEASE, COALESCE, COALESCE_ALL, CLEAR_BIN, REMOVE_BIN, GROW_BIN, PLACE_AT, PLACE_BEST,
-    PLACE_ANYWHERE, RELEASE_ALL, RECUT, PACK_FITTING, KINDS
+    PLACE_ANYWHERE, RELEASE_ALL, RECUT, PACK_FITTING, PACK_TOLD, KINDS
 };
 
 /* A command. The bin is an index in ids. Which number is released, pick chooses from those that were given by then, unless it
@@ -31,6 +31,7 @@ typedef struct command {
 typedef struct answer {
     uint32_t status, chosen;
     size_t left;
+    rp_refused refused;
     rp_outstanding places[ENTRIES + 1];
     rp_stats stats[BINS];
     uint64_t free;
@@ -41,12 +42,21 @@ static const uint64_t NEVER_GIVEN = UINT64_MAX;
 
 static int packs(const command *it)
 {
-    return it->kind == PACK || it->kind == PACK_COLLECTION || it->kind == PACK_FITTING;
+    return it->kind == PACK || it->kind == PACK_COLLECTION || it->kind == PACK_FITTING || it->kind == PACK_TOLD;
 }
 
 static enum way way_of(const command *it)
 {
-    return it->kind == PACK ? BOXES_ALONE : it->kind == PACK_FITTING ? WHAT_FITS : ALL_OF_IT;
+    switch (it->kind) {
+    case PACK:
+        return BOXES_ALONE;
+    case PACK_FITTING:
+        return WHAT_FITS;
+    case PACK_TOLD:
+        return AS_TOLD;
+    default:
+        return ALL_OF_IT;
+    }
 }
 
 /* One of the numbers that were given, or of the next two; or one that never is. */
@@ -108,6 +118,23 @@ static uint32_t pack_fitting(rp_session *session, const command *it, answer *sai
     return status;
 }
 
+static uint32_t pack_told(rp_session *session, const command *it, answer *said)
+{
+    const request *asked = &it->asked;
+    const rp_collection *all = guarded_collection(asked);
+    const rp_step *steps = guarded_steps(asked);
+    size_t size = asked->places * sizeof *said->places;
+    rp_outstanding *places = guarded_untouched(PLACEMENTS_LIST, size);
+    rp_refused *refused = guarded_untouched(CHOSEN, sizeof *refused);
+    uint32_t status = rectangle_pack_session_pack_told(session, all, steps, asked->step_count, places, asked->places, refused);
+    check_kept(asked, all);
+    check_told(status, places, size, refused);
+    check(!memcmp(steps, asked->steps, asked->step_count * sizeof *steps), "steps are changed");
+    memcpy(said->places, places, size);
+    said->refused = *refused;
+    return status;
+}
+
 /* Places a box where it fits best, in one bin or in any. */
 static uint32_t fit(rp_session *session, const command *it, answer *said)
 {
@@ -138,6 +165,7 @@ static uint32_t perform(rp_session *session, const command *it, const account *n
     memset(said->places, UNTOUCHED, sizeof said->places);
     memset(&said->chosen, UNTOUCHED, sizeof said->chosen);
     memset(&said->left, UNTOUCHED, sizeof said->left);
+    memset(&said->refused, UNTOUCHED, sizeof said->refused);
     refused = 0;
     switch (it->kind) {
     case ADD_BIN:
@@ -165,6 +193,8 @@ static uint32_t perform(rp_session *session, const command *it, const account *n
         return rectangle_pack_session_recut(session, ids[it->bin]);
     case PACK_FITTING:
         return pack_fitting(session, it, said);
+    case PACK_TOLD:
+        return pack_told(session, it, said);
     default:
         return pack(session, it, said);
     }

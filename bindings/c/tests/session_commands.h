@@ -145,7 +145,7 @@ static void check_groups_packed(const request *asked, const answer *said)
 static void check_packed(const command *it, const account *now, const packing *right, const answer *said)
 {
     check_groups_packed(&it->asked, said);
-    check(said->chosen == right->heuristic, "the heuristic is not that of the rule");
+    check(it->kind == PACK_TOLD || said->chosen == right->heuristic, "the heuristic is not that of the rule");
     check(it->kind != PACK_FITTING || said->left == left_by(right), "how many are left is another number");
     for (size_t i = 0; i < right->count; i++) {
         const rp_placement *at = &said->places[i].placement;
@@ -279,6 +279,8 @@ static int obey(rp_session *session, const command *it, account *now, answer *sa
         said->status = perform(session, it, now, said);
     }
     check(said->status == right, "the status of a command");
+    if (right == RP_STEP_REFUSED)
+        check(are_same_steps(&said->refused, &next.packed.refused), "another step is refused than by the rule");
     if (said->status == RP_DONE)
         settle_done(session, it, now, &next, said);
     else

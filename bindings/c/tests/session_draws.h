@@ -2,8 +2,8 @@
 #ifndef SESSION_DRAWS_H
 #define SESSION_DRAWS_H
 
-#include "packing_draws.h"
 #include "session_commands.h"
+#include "told_draws.h"
 
 enum { MOST_BOXES = 6, MOST_MEMBERS = PACKED - MOST_BOXES };
 
@@ -80,6 +80,9 @@ static void draw_command(command *it, enum kind kind, uint32_t depth)
     case PACK_COLLECTION:
     case PACK_FITTING:
         draw_collection(&it->asked, MOST_BOXES, MOST_MEMBERS, box_depth);
+        break;
+    case PACK_TOLD:
+        draw_told(&it->asked, MOST_BOXES, MOST_MEMBERS, box_depth, ids, BINS);
         break;
     case RELEASE:
         it->pick = within(0, 15) == 15 ? NEVER_GIVEN : within(0, UINT16_MAX);

@@ -18,7 +18,7 @@
 #include "session_restoring.h"
 #include "straight_cuts_cases.h"
 
-enum { SCRIPTS = 60, STATUSES = RP_NOT_FROM_CUTS + 1, DRAWN_PARTS = 20000, REFUSED_PARTS = 100 };
+enum { SCRIPTS = 60, STATUSES = RP_STEP_REFUSED + 1, DRAWN_PARTS = 20000, REFUSED_PARTS = 100 };
 
 /* Reads all plans, with refusals of their own. Their requests are not counted among those of the script. */
 static void read_plans(rp_session *session, const account *now)
@@ -78,6 +78,7 @@ static void check_same(const answer *one, const answer *other)
         check(one[i].status == other[i].status, "a refused request changes a status");
         check(one[i].chosen == other[i].chosen, "a refused request changes a heuristic");
         check(one[i].left == other[i].left, "a refused request changes how many are left");
+        check(are_same_steps(&one[i].refused, &other[i].refused), "a refused request changes which step is refused");
         check(!memcmp(one[i].places, other[i].places, sizeof one[i].places), "a refused request changes placements");
         check(!memcmp(one[i].stats, other[i].stats, sizeof one[i].stats), "a refused request changes statistics");
         check(one[i].free == other[i].free, "a refused request changes free sections");
@@ -107,7 +108,7 @@ static void draw_script(command *script)
                                       PACK_COLLECTION, RELEASE, RELEASE, RELEASE, COALESCE, COALESCE, COALESCE_ALL, CLEAR_BIN,
                                       REMOVE_BIN, GROW_BIN, GROW_BIN, GROW_BIN, PLACE_AT, PLACE_AT, PLACE_BEST, PLACE_BEST,
                                       PLACE_ANYWHERE, PLACE_ANYWHERE, RELEASE_ALL, RELEASE_ALL, RECUT, RECUT, PACK_FITTING,
-                                      PACK_FITTING, PACK_FITTING};
+                                      PACK_FITTING, PACK_FITTING, PACK_TOLD, PACK_TOLD, PACK_TOLD};
     uint32_t depth = within(0, 1) ? SIDE : 1;
     for (size_t i = 0; i < COMMANDS; i++)
         draw_command(&script[i], i == 0 ? ADD_BIN : kinds[within(0, sizeof kinds / sizeof *kinds - 1)], depth);
@@ -144,8 +145,8 @@ static void begin_with_pinwheel(command *script)
    behind these stay as they were drawn. */
 static void begin_with_mistakes(command *script, enum kind kind)
 {
-    static const request best = {{{1, 3, 1, 0}, {3, 2, 1, 0}, {3, 1, 1, 0}}, {{0, 0}}, {{0, 0}}, 3, 0, 0, 3, RP_BEST};
-    static const request pair = {{{2, 2, 1, 1}}, {{0, 2}, {0, 0}}, {{1, 2}, {2, 1}, {1, 3}}, 1, 2, 3, 3, RP_BEST};
+    static const request best = {{{1, 3, 1, 0}, {3, 2, 1, 0}, {3, 1, 1, 0}}, {{0, 0}}, {{0, 0}}, 3, 0, 0, 3, RP_BEST, {{0, 0, 0}}, 0};
+    static const request pair = {{{2, 2, 1, 1}}, {{0, 2}, {0, 0}}, {{1, 2}, {2, 1}, {1, 3}}, 1, 2, 3, 3, RP_BEST, {{0, 0, 0}}, 0};
     size_t at = 0;
     script[at++] = (command){.kind = ADD_BIN, .size = {4, 4, 1}};
     script[at++] = (command){.kind = kind, .asked = best};
@@ -300,6 +301,7 @@ static void check_seen(const long *seen, const long *done, long wanted, const lo
     check(seen[RP_BIN_IN_USE] > 5 && seen[RP_TOO_LARGE] > 5, "bins are in use or too large too seldom");
     check(seen[RP_NOT_FREE] > 5 && seen[RP_UNKNOWN_AXIS] > 5, "too few places are not free, or too few axes unknown");
     check(seen[RP_NOT_FROM_CUTS] > 0, "each bin is cut anew");
+    check(seen[RP_STEP_REFUSED] > 5, "steps are refused too seldom");
     check(winners > 2, "too few heuristics are the best");
     check(taken_up > 10 && short_arrays > 100 && plans_wanting > 100, "what is read of the drawn sessions shows too little");
 }
@@ -327,7 +329,7 @@ int main(void)
             seen[answers[j].status]++;
             done[script[j].kind] += answers[j].status == RP_DONE;
             left += script[j].kind == PACK_FITTING && answers[j].status == RP_DONE && answers[j].left > 0;
-            if (answers[j].status == RP_DONE && packs(&script[j]))
+            if (answers[j].status == RP_DONE && packs(&script[j]) && script[j].kind != PACK_TOLD)
                 (script[j].asked.heuristic == RP_BEST ? best_by : done_by)[answers[j].chosen]++;
         }
     }

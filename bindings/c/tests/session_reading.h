@@ -40,6 +40,11 @@ static uint32_t call_outstanding(rp_session *session, uint32_t bin, void *array,
     return rectangle_pack_session_outstanding(session, array, length, count);
 }
 
+static uint32_t call_outstanding_in(rp_session *session, uint32_t bin, void *array, size_t length, size_t *count)
+{
+    return rectangle_pack_session_outstanding_in(session, bin, array, length, count);
+}
+
 static uint32_t call_plan(rp_session *session, uint32_t bin, void *array, size_t length, size_t *count)
 {
     return rectangle_pack_session_cut_plan(session, bin, array, length, count);
@@ -154,20 +159,39 @@ static void read_bins(rp_session *session, const account *now)
     }
 }
 
+static void check_standing(const rp_standing *it, const standing *known)
+{
+    rp_section place = section_of(known);
+    check(it->number == known->at.number, "the number of an outstanding placement");
+    check(it->index == known->index, "the index of an outstanding placement");
+    check(it->bin == known->at.placement.bin, "the bin of an outstanding placement");
+    check(are_same(&it->section, &place), "where an outstanding placement stands");
+}
+
 static void read_outstanding(rp_session *session, const account *now)
 {
     static rp_standing list[STANDING + 2];
     size_t count = ask_each(&(question){call_outstanding, session, 0, list, sizeof *list}, RP_DONE);
     check(count == now->count, "how many placements are outstanding");
     for (size_t i = 0; i < count; i++) {
-        const standing *known = &now->placed[i];
-        rp_section place = section_of(known);
-        check(list[i].number == known->at.number, "the number of an outstanding placement");
-        check(list[i].index == known->index, "the index of an outstanding placement");
-        check(list[i].bin == known->at.placement.bin, "the bin of an outstanding placement");
-        check(are_same(&list[i].section, &place), "where an outstanding placement stands");
+        check_standing(&list[i], &now->placed[i]);
         check(i == 0 || list[i - 1].number < list[i].number, "the numbers of placements do not rise");
     }
+}
+
+/* Those of one bin are the others left out. */
+static void read_outstanding_in(rp_session *session, const account *now, size_t bin)
+{
+    static rp_standing list[STANDING + 2];
+    uint32_t right = now->has_bin[bin] ? RP_DONE : RP_UNKNOWN_BIN;
+    size_t count = ask_each(&(question){call_outstanding_in, session, ids[bin], list, sizeof *list}, right), at = 0;
+    for (size_t i = 0; i < now->count; i++) {
+        if (now->placed[i].at.placement.bin != ids[bin])
+            continue;
+        check(at < count, "a placement of a bin is not told");
+        check_standing(&list[at++], &now->placed[i]);
+    }
+    check(at == count, "a placement of another bin is told");
 }
 
 static void read_sections(rp_session *session, const account *now, size_t bin, sections *free)
@@ -219,12 +243,14 @@ static void read_plan(rp_session *session, const account *now, size_t bin, const
     refuse_plan(&it, right, &own);
 }
 
-/* Reads all that can be read but the plans, and holds it against the account. No memory is taken. */
+/* Reads all that can be read but the plans, of the placements of single bins those of one, and holds it against the account. No memory
+   is taken. */
 static void read_session(rp_session *session, const account *now, rp_stats *stats, sections *free)
 {
     long before = requests;
     read_bins(session, now);
     read_outstanding(session, now);
+    read_outstanding_in(session, now, now->count % BINS);
     check(rectangle_pack_session_next_number(session) == now->next, "the next number");
     for (size_t i = 0; i < BINS; i++) {
         read_stats(session, now, i, &stats[i]);
