@@ -5,63 +5,36 @@
 #include <cstdio>
 #include <cstdlib>
 #include <cstring>
+#include <new>
 #include <optional>
 #include <type_traits>
 #include <utility>
 #include <vector>
 
-#include "rectangle_pack.hpp"
+#include "checks.hpp"
 #if __cplusplus >= 202002L
 #include <span>
 #endif
 
-namespace rp = rectangle_pack;
-using rp::BinId;
-using rp::Status;
+/* Whether requests for memory by C++ are refused. */
+static bool refusing_new = false;
 
-/* Whether the library's requests for memory are refused. */
-static bool refusing = false;
-
-extern "C" {
-void *__real_malloc(std::size_t size);
-void *__real_realloc(void *block, std::size_t size);
-void *__wrap_malloc(std::size_t size);
-void *__wrap_realloc(void *block, std::size_t size);
-
-void *__wrap_malloc(std::size_t size)
+void *operator new(std::size_t size)
 {
-    return refusing ? nullptr : __real_malloc(size);
+    void *block = refusing_new ? nullptr : __real_malloc(size + 1);
+    if (!block)
+        throw std::bad_alloc();
+    return block;
 }
 
-void *__wrap_realloc(void *block, std::size_t size)
+void operator delete(void *block) noexcept
 {
-    return refusing ? nullptr : __real_realloc(block, size);
-}
-}
-
-static void check(bool holds, const char *what)
-{
-    if (!holds) {
-        std::fprintf(stderr, "test.cpp: %s\n", what);
-        std::exit(1);
-    }
+    std::free(block);
 }
 
-/* The refusal that a call throws, or done. */
-template <class Call> static Status refusal(Call call)
+void operator delete(void *block, std::size_t) noexcept
 {
-    try {
-        call();
-    } catch (const rp::Error &error) {
-        check(std::strcmp(error.what(), rp::text(error.status())) == 0, "an error has another text than its status");
-        return error.status();
-    }
-    return Status::done;
-}
-
-template <class Call> static void must_be(Status status, Call call, const char *what)
-{
-    check(refusal(call) == status, what);
+    std::free(block);
 }
 
 static bool equal(const rp::Section &one, const rp::Section &other)
@@ -76,10 +49,11 @@ static bool is_at(const rp::Outstanding &it, std::uint64_t number, std::uint32_t
 
 static void test_texts()
 {
-    for (std::uint32_t one = 0; one <= RP_WRONG_BOXES; one++) {
+    for (std::uint32_t one = 0; one <= RP_UNKNOWN_OPTIONS; one++) {
         for (std::uint32_t other = 0; other < one; other++)
             check(std::strcmp(rp::text(Status{one}), rp::text(Status{other})) != 0, "two statuses have one text");
         check(std::strcmp(rp::text(Status{one}), rp::text(Status{99})) != 0, "a status has no text");
+        check(std::strcmp(rp::text(Status{one}), rp::text(Status::moved_from)) != 0, "a status of the header has another text");
     }
 }
 
@@ -215,6 +189,12 @@ static void test_boxes_that_fit_best()
     check(wall.bin == large && wall.number == rp::PlacementNumber{1}, "a box is not in its bin");
     const std::vector<rp::Standing> standing = session.outstanding();
     check(standing.size() == 2 && standing[1].index == 0 && equal(standing[1].section, {0, 0, 0, 9, 5, 1}), "a box stands elsewhere");
+    const std::vector<rp::Standing> in_large = session.outstanding_in(large);
+    check(in_large.size() == 1 && in_large[0].number == wall.number && equal(in_large[0].section, standing[1].section),
+          "another box stands in a bin");
+    session.add_bin(none, rp::bin(1, 1));
+    check(session.outstanding_in(none).empty(), "a box stands in an empty bin");
+    session.remove_bin(none);
     must_be(Status::unknown_heuristic, [&] { session.place_best(none, rp::box(1, 1), rp::Heuristic::best); }, "one box has a best");
     must_be(Status::unknown_heuristic, [&] { session.place_best(rp::box(1, 1), rp::Heuristic{8}); }, "there is a heuristic 8");
     must_be(Status::unknown_bin, [&] { session.place_best(none, rp::box(1, 1)); }, "place_best knows a bin");
@@ -353,6 +333,7 @@ static void test_refusals_of_a_session()
     must_be(Status::unknown_placement, [&] { session.release(rp::PlacementNumber{5}); }, "a number is not there");
     must_be(Status::unknown_bin, [&] { session.stats(none); }, "stats know a bin");
     must_be(Status::unknown_bin, [&] { session.free_sections(none); }, "sections know a bin");
+    must_be(Status::unknown_bin, [&] { session.outstanding_in(none); }, "placements know a bin");
     must_be(Status::unknown_bin, [&] { session.cut_plan(none); }, "a plan knows a bin");
     must_be(Status::unknown_bin, [&] { session.coalesce_all(none); }, "coalesce_all knows a bin");
     must_be(Status::unknown_bin, [&] { session.coalesce(none, 0, 0, 1); }, "coalesce knows a bin");
@@ -445,6 +426,24 @@ static void test_refused_memory()
     memory([&] { session.recut(BinId{0}); }, "a bin is cut anew without memory");
     check(session.outstanding().size() == 1 && session.bins().size() == 1, "a refusal changes a session");
     session.release(places[0].number);
+}
+
+/* Where a list gets no memory nothing is packed, and it is a refusal. */
+static void test_memory_of_lists()
+{
+    const rp::Bin bins[] = {rp::bin(10, 10)};
+    const rp::Box boxes[] = {rp::box(2, 2)};
+    rp::Session session;
+    session.add_bin(BinId{0}, bins[0]);
+    const rp::Parts parts = session.parts();
+    refusing_new = true;
+    const Status refusals[] = {rp::try_pack(bins, boxes).status(), session.try_pack(boxes).status(), session.try_fit(boxes).status(),
+                               session.try_bins().status(), session.try_parts().status(), session.try_release_all({}),
+                               rp::Session::try_restore(parts).status(), refusal([&] { session.pack(boxes); })};
+    refusing_new = false;
+    for (const Status it : refusals)
+        check(it == Status::out_of_memory, "a list is made of nothing");
+    check(session.outstanding().empty() && session.next_number() == rp::PlacementNumber{0}, "a placement is lost");
 }
 
 /* What is wrong with claims of two strips of one group on two sheets: the kind, and the two places. */
@@ -629,6 +628,11 @@ static void test_moves()
     std::vector<rp::Session> many(10);
     many.erase(many.begin());
     check(many.size() == 9 && many.front(), "sessions do not stand in a vector");
+    check(other.try_stats(BinId{1}).status() == Status::moved_from, "a session that was moved from has stats");
+    check(other.try_recut(BinId{1}) == Status::moved_from, "a session that was moved from is cut anew");
+    check(other.try_pack(rp::View<rp::Box>()).status() == Status::moved_from, "a session that was moved from packs");
+    check(other.try_parts().status() == Status::moved_from, "a session that was moved from has parts");
+    check(other.try_next_number().status() == Status::moved_from, "a session that was moved from has numbers");
 }
 
 int main()
@@ -649,6 +653,7 @@ int main()
     test_no_plan();
     test_long_lists();
     test_refused_memory();
+    test_memory_of_lists();
     test_judge();
     test_straight_cuts();
     test_many_straight_cuts();
