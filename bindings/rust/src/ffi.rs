@@ -1,11 +1,14 @@
 //! The one place where the calls of C are made.
 
+mod bound;
 mod calls;
 mod cuts;
 mod fitting;
 #[cfg(test)]
 mod kept;
 mod saved;
+mod searching;
+mod told;
 
 use std::cell::UnsafeCell;
 use std::fmt;
@@ -13,18 +16,22 @@ use std::ops::Range;
 use std::ptr;
 
 use calls::*;
+pub(crate) use bound::least_bins;
 pub(crate) use cuts::straight_cuts;
 pub(crate) use fitting::fit;
 pub(crate) use saved::Saved;
+pub(crate) use searching::{begin_search, found, Begun, Found};
+pub(crate) use told::tell;
 pub(crate) use calls::{
-    Collection, RpBin, RpBox, RpClaim, RpEntry, RpExclusion, RpFault, RpOutstanding, RpPlacement,
-    RpSection, BEST, FAULT_EXCLUDED_TOGETHER, FAULT_GROUP_IN_TWO_BINS, FAULT_OUTSIDE,
-    FAULT_PLACED_TWICE, FAULT_SHARES_CELL, FAULT_UNKNOWN_BIN, FAULT_UNKNOWN_BOX, FAULT_WRONG_SIZE,
+    Collection, RpBin, RpBox, RpClaim, RpCost, RpEntry, RpExclusion, RpFault, RpOutstanding,
+    RpPlacement, RpSection, RpStanding, RpStep, Wanted, BEST, FAULT_EXCLUDED_TOGETHER,
+    FAULT_GROUP_IN_TWO_BINS, FAULT_OUTSIDE, FAULT_PLACED_TWICE, FAULT_SHARES_CELL,
+    FAULT_UNKNOWN_BIN, FAULT_UNKNOWN_BOX, FAULT_WRONG_SIZE,
 };
 
 use crate::{
-    Axis, BinStats, CutStep, Heuristic, PackedLocation, RectanglePackError, Section, SessionError,
-    TargetBin,
+    Axis, BinStats, CutStep, Heuristic, PackedLocation, RectToInsert, RectanglePackError, Section,
+    SessionError, TargetBin,
 };
 
 impl From<&TargetBin> for RpBin {
@@ -47,6 +54,12 @@ impl From<&PackedLocation> for RpSection {
             height: location.height(),
             depth: location.depth(),
         }
+    }
+}
+
+impl From<&RpSection> for PackedLocation {
+    fn from(it: &RpSection) -> Self {
+        PackedLocation::new(it.x, it.y, it.z, RectToInsert::new(it.width, it.height, it.depth))
     }
 }
 

@@ -114,7 +114,7 @@ where
     let left = left_among(rects, &entries, &listed);
     let all = entries.iter().zip(listed);
     let placed = all.filter_map(|(&(id, _), at)| Some((id, at?)));
-    let packed = RectanglePackOk::named(rects, bins, placed);
+    let packed = RectanglePackOk::upright(rects, bins, placed);
     Ok((chosen, Fitted { packed, left }))
 }
 

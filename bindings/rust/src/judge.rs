@@ -34,6 +34,11 @@ impl Turns {
     fn number(self) -> u32 {
         u32::from(self.about_x) + 2 * u32::from(self.about_y) + 4 * u32::from(self.about_z)
     }
+
+    /// How a box may be turned, as C has it. One whose id is not there stands as it is.
+    pub(crate) fn of<RectId: Ord>(turns: &BTreeMap<RectId, Turns>, id: &RectId) -> u32 {
+        turns.get(id).map_or(0, |it| it.number())
+    }
 }
 
 /// Where somebody put a box.
@@ -157,7 +162,7 @@ where
     let listed: Vec<ffi::RpEntry> = boxes
         .map(|(&(id, _), rect)| ffi::RpEntry {
             rect,
-            turns: turns.get(id).map_or(0, |it| it.number()),
+            turns: Turns::of(turns, id),
         })
         .collect();
     let bin_list: Vec<ffi::RpBin> = bins.values().map(ffi::RpBin::from).collect();

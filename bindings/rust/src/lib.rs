@@ -29,6 +29,10 @@
 //! best. Groups that are [excluded](GroupedRectsToPlace::exclude) go into different bins. [`pack_rects_fitting`] packs what fits, and
 //! answers the groups that are left.
 //!
+//! [`pack_rects_searched`] looks for a packing that is better than that of any heuristic, and may turn boxes; [`begin_search`] does so
+//! in pieces. [`pack_rects_told`] packs by a list of steps that anyone made. [`least_bins`] says how many bins are needed, whatever
+//! packer is taken.
+//!
 //! [`first_fault`] says what is wrong first with a packing, whoever made it. [`straight_cuts`] says how straight cuts part a bin into
 //! boxes that stand in it.
 //!
@@ -39,6 +43,7 @@
 
 #![warn(missing_docs)]
 
+mod bound;
 mod cutting;
 mod ffi;
 mod fitting;
@@ -46,18 +51,26 @@ mod heuristic;
 mod judge;
 mod pack;
 mod rects;
+mod searching;
 mod session;
+mod told;
 
+pub use bound::least_bins;
 pub use cutting::{straight_cuts, SectionsError};
 pub use fitting::{pack_rects_fitting, pack_rects_fitting_best, Fitted, Group};
 pub use heuristic::{Heuristic, UnknownHeuristic};
 pub use judge::{first_fault, AloneFault, Claim, Conflict, Fault, Turns};
 pub use pack::{pack_rects, pack_rects_best, pack_rects_by, RectanglePackError, RectanglePackOk};
 pub use rects::GroupedRectsToPlace;
+pub use searching::{
+    begin_search, pack_rects_found, pack_rects_searched, AllocError, Progress, Search,
+    SearchOptions, Searched,
+};
 pub use session::{
     Axis, BinStats, CutStep, Outstanding, RestoreError, SavedBin, Section, Session, SessionError,
     SessionParts,
 };
+pub use told::{pack_rects_told, Step, StepFault, ToldError};
 
 /// The size of a box that is to be placed, in cells.
 #[derive(Debug, Clone, Copy, PartialEq, Eq, Hash)]
@@ -125,6 +138,14 @@ impl PackedLocation {
     pub fn new(x: u32, y: u32, z: u32, size: RectToInsert) -> Self {
         PackedLocation {
             corner: (x, y, z),
+            size,
+        }
+    }
+
+    /// Where C placed a box that stands as it is.
+    pub(crate) fn upright(size: RectToInsert, at: &ffi::RpPlacement) -> Self {
+        PackedLocation {
+            corner: (at.x, at.y, at.z),
             size,
         }
     }

@@ -4,7 +4,7 @@ use std::collections::BTreeMap;
 use std::error::Error;
 use std::fmt;
 
-use crate::{ffi, GroupedRectsToPlace, Heuristic, PackedLocation, TargetBin};
+use crate::{ffi, AllocError, GroupedRectsToPlace, Heuristic, PackedLocation, TargetBin};
 
 /// Where each box is.
 #[derive(Debug, Clone, PartialEq, Eq)]
@@ -14,11 +14,10 @@ pub struct RectanglePackOk<RectId, BinId> {
 }
 
 impl<RectId: Ord + Clone, BinId: Clone> RectanglePackOk<RectId, BinId> {
-    /// What C placed, by its names. The bins have their places in the map.
-    pub(crate) fn named<'a, GroupId>(
-        rects: &GroupedRectsToPlace<RectId, GroupId>,
+    /// What C placed, by its names: each box with its bin, by its place in the map, and where it stands there.
+    pub(crate) fn named<'a>(
         bins: &BTreeMap<BinId, TargetBin>,
-        placed: impl Iterator<Item = (&'a RectId, ffi::RpPlacement)>,
+        placed: impl Iterator<Item = (&'a RectId, u32, PackedLocation)>,
     ) -> Self
     where
         RectId: 'a,
@@ -28,18 +27,27 @@ impl<RectId: Ord + Clone, BinId: Clone> RectanglePackOk<RectId, BinId> {
             packed_locations: BTreeMap::new(),
             placements: Vec::new(),
         };
-        for (id, placement) in placed {
-            let bin = bin_ids[placement.bin as usize].clone();
-            let location = PackedLocation {
-                corner: (placement.x, placement.y, placement.z),
-                size: rects.sizes[id],
-            };
+        for (id, bin, location) in placed {
+            let bin = bin_ids[bin as usize].clone();
             packed
                 .packed_locations
                 .insert(id.clone(), (bin.clone(), location));
             packed.placements.push((id.clone(), bin, location));
         }
         packed
+    }
+
+    /// The same of boxes that stand as they are.
+    pub(crate) fn upright<'a, GroupId>(
+        rects: &GroupedRectsToPlace<RectId, GroupId>,
+        bins: &BTreeMap<BinId, TargetBin>,
+        placed: impl Iterator<Item = (&'a RectId, ffi::RpPlacement)>,
+    ) -> Self
+    where
+        RectId: 'a,
+    {
+        let located = placed.map(|(id, at)| (id, at.bin, PackedLocation::upright(rects.sizes[id], &at)));
+        Self::named(bins, located)
     }
 }
 
@@ -83,6 +91,12 @@ impl fmt::Display for RectanglePackError {
 }
 
 impl Error for RectanglePackError {}
+
+impl From<AllocError> for RectanglePackError {
+    fn from(_: AllocError) -> Self {
+        RectanglePackError::OutOfMemory
+    }
+}
 
 /// Packs all boxes into the bins, each group whole into one of them, and groups that are excluded into different ones. Equal boxes
 /// and bins are packed alike, on every machine.
@@ -195,7 +209,7 @@ where
     let bin_list = bins_for_c(entries.len(), bins)?;
     let (chosen, placed) = ffi::pack(&bin_list, &rects.collection(&entries), heuristic)?;
     let ids = entries.iter().map(|&(id, _)| id);
-    Ok((chosen, RectanglePackOk::named(rects, bins, ids.zip(placed))))
+    Ok((chosen, RectanglePackOk::upright(rects, bins, ids.zip(placed))))
 }
 
 /// The bins as C takes them, unless there are too many of them, or of entries.

@@ -4,6 +4,22 @@ use std::collections::{BTreeMap, BTreeSet};
 
 use crate::{ffi, Group, RectToInsert};
 
+/// The place of the first entry of each group.
+pub(crate) struct GroupPlaces<'a, RectId, GroupId> {
+    alone: BTreeMap<&'a RectId, u32>,
+    grouped: BTreeMap<&'a GroupId, u32>,
+}
+
+impl<RectId: Ord, GroupId: Ord> GroupPlaces<'_, RectId, GroupId> {
+    /// That of this group, if it is there.
+    pub(crate) fn of(&self, group: &Group<'_, GroupId, RectId>) -> Option<u32> {
+        match group {
+            Group::Ungrouped(id) => self.alone.get(id).copied(),
+            Group::Grouped(name) => self.grouped.get(name).copied(),
+        }
+    }
+}
+
 /// Boxes to place, and the groups that they are in. The boxes of one group go into one bin together, and groups that are excluded
 /// go into different bins.
 #[derive(Debug, Clone)]
@@ -95,6 +111,19 @@ impl<RectId: Ord + Clone, GroupId: Ord> GroupedRectsToPlace<RectId, GroupId> {
             .zip(self.groups.values())
             .flat_map(|(number, ids)| ids.iter().map(move |id| (id, number)));
         alone.chain(grouped).collect()
+    }
+
+    /// Where the first entry of each group stands.
+    pub(crate) fn places_of_groups<'a>(&'a self, entries: &[(&'a RectId, u32)]) -> GroupPlaces<'a, RectId, GroupId> {
+        let names: Vec<&GroupId> = self.groups.keys().collect();
+        let (mut alone, mut grouped) = (BTreeMap::new(), BTreeMap::new());
+        for (&(id, number), place) in entries.iter().zip(0..) {
+            match number {
+                0 => alone.insert(id, place),
+                _ => Some(*grouped.entry(names[number as usize - 1]).or_insert(place)),
+            };
+        }
+        GroupPlaces { alone, grouped }
     }
 
     /// The groups of these entries, each once. The entries of a group stand side by side.

@@ -3,8 +3,10 @@
 mod fitting;
 mod parts;
 mod saving;
+mod searching;
 #[cfg(test)]
 mod tests;
+mod told;
 mod upkeep;
 
 use std::collections::BTreeMap;
@@ -186,36 +188,59 @@ impl<RectId: Ord + Clone, BinId: Ord + Clone> Session<RectId, BinId> {
         rects: &GroupedRectsToPlace<RectId, GroupId>,
         heuristic: u32,
     ) -> Result<(Heuristic, Vec<Outstanding<RectId, BinId>>), SessionError> {
-        let entries = rects.entries();
-        if u32::try_from(entries.len()).is_err() {
-            return Err(SessionError::TooMany);
-        }
+        let entries = self.entries_of(rects)?;
         let (chosen, placed) = self.handle.pack(&rects.collection(&entries), heuristic)?;
-        let added: Vec<_> = entries
-            .iter()
-            .zip(&placed)
-            .map(|(&(id, _), at)| self.named(id, rects.sizes[id], at))
-            .collect();
-        self.outstanding
-            .extend(added.iter().map(|it| (it.number, it.clone())));
-        Ok((chosen, added))
+        let all = entries.iter().zip(&placed);
+        let added = all.map(|(&(id, _), at)| self.named(id, rects.sizes[id], at));
+        let added = added.collect();
+        Ok((chosen, self.taken_up(added)))
     }
 
+    /// The entries of boxes, unless there are too many of them.
+    fn entries_of<'a, GroupId: Ord>(
+        &self,
+        rects: &'a GroupedRectsToPlace<RectId, GroupId>,
+    ) -> Result<Vec<(&'a RectId, u32)>, SessionError> {
+        let entries = rects.entries();
+        match u32::try_from(entries.len()) {
+            Ok(_) => Ok(entries),
+            Err(_) => Err(SessionError::TooMany),
+        }
+    }
+
+    /// Placements that C made: they are outstanding on this side too.
+    fn taken_up(
+        &mut self,
+        added: Vec<Outstanding<RectId, BinId>>,
+    ) -> Vec<Outstanding<RectId, BinId>> {
+        let numbered = added.iter().map(|it| (it.number, it.clone()));
+        self.outstanding.extend(numbered);
+        added
+    }
+
+    /// The placement of a box that stands as it is, by its names.
     fn named(
         &self,
         id: &RectId,
         size: RectToInsert,
         at: &ffi::RpOutstanding,
     ) -> Outstanding<RectId, BinId> {
-        let placement = &at.placement;
+        let location = PackedLocation::upright(size, &at.placement);
+        self.named_at(id, at.number, at.placement.bin, location)
+    }
+
+    fn named_at(
+        &self,
+        id: &RectId,
+        number: u64,
+        bin: u32,
+        location: PackedLocation,
+    ) -> Outstanding<RectId, BinId> {
         Outstanding {
-            number: at.number,
+            number,
             id: id.clone(),
-            bin: self.ids[&placement.bin].clone(),
-            location: PackedLocation {
-                corner: (placement.x, placement.y, placement.z),
-                size,
-            },
+            bin: self.ids[&bin].clone(),
+            location,
         }
     }
 
@@ -336,6 +361,28 @@ impl<RectId: Ord + Clone, BinId: Ord + Clone> Session<RectId, BinId> {
     /// The outstanding placements, in the order of their numbers.
     pub fn outstanding(&self) -> impl Iterator<Item = &Outstanding<RectId, BinId>> {
         self.outstanding.values()
+    }
+
+    /// The outstanding placements of one bin, in the order of their numbers. This looks at each outstanding placement of the session.
+    ///
+    /// ```
+    /// # use rectangle_pack::{Heuristic, RectToInsert, Session, SessionError, TargetBin};
+    /// # let mut session: Session<&str, &str> = Session::new()?;
+    /// session.add_bin("left", TargetBin::new(4, 4, 1))?;
+    /// session.add_bin("right", TargetBin::new(9, 9, 1))?;
+    /// let hat = session.place_best(Some(&"right"), "hat", RectToInsert::new(2, 2, 1), Heuristic::Volume)?;
+    /// assert!(session.outstanding_in(&"left")?.is_empty());
+    /// assert_eq!(session.outstanding_in(&"right")?[0].number, hat);
+    /// assert_eq!(session.outstanding_in(&"none"), Err(SessionError::UnknownBin));
+    /// # Ok::<(), SessionError>(())
+    /// ```
+    ///
+    /// # Errors
+    ///
+    /// `UnknownBin`.
+    pub fn outstanding_in(&self, bin: &BinId) -> Result<Vec<&Outstanding<RectId, BinId>>, SessionError> {
+        self.number_of(bin)?;
+        Ok(self.outstanding().filter(|it| it.bin == *bin).collect())
     }
 
     /// The number that the next placement gets, or the greatest `u64` where numbers are used up.

@@ -113,7 +113,7 @@ fn a_session_goes_to_another_thread_and_back() -> Result<(), SessionError> {
         session.release(0)?;
         session.coalesce_all(&"sheet")?;
         session.pack(&rects(&[("shoe", 10, 1)]))?;
-        Ok(session)
+        Ok::<_, SessionError>(session)
     });
     let mut session = other.join().expect("it does not panic")?;
     assert_eq!(numbers(&session), [(1, "shoe".to_string())]);

@@ -1,5 +1,7 @@
 //! The types, the numbers and the calls of `include/rectangle_pack.h`.
 
+use std::mem;
+
 #[repr(C)]
 pub(crate) struct RpBin {
     pub(crate) width: u32,
@@ -89,6 +91,109 @@ pub(super) struct RpFitted {
 pub(super) const LEFT_BIN: u32 = u32::MAX;
 pub(super) const LEFT_NUMBER: u64 = u64::MAX;
 
+/// A step of a packing as it is told.
+#[repr(C)]
+pub(crate) struct RpStep {
+    pub(crate) index: u32,
+    pub(crate) bin: u32,
+    pub(crate) heuristic: u32,
+}
+
+/// The first step that is refused.
+#[repr(C)]
+#[derive(Default)]
+pub(super) struct RpRefused {
+    pub(super) step: usize,
+    pub(super) fault: u32,
+}
+
+pub(super) const STEP_UNKNOWN_BIN: u32 = 1;
+pub(super) const STEP_NAMED_TWICE: u32 = 2;
+pub(super) const STEP_EXCLUDED: u32 = 3;
+
+/// What it costs to use a bin.
+#[repr(C)]
+pub(crate) struct RpCost {
+    pub(crate) bin: u32,
+    pub(crate) cost: u64,
+}
+
+/// How a search goes on, and what it may do.
+#[repr(C)]
+pub(super) struct RpSearchOptions {
+    size: usize,
+    tries: u64,
+    seed: u64,
+    may_leave: u32,
+    turns: *const u32,
+    turn_count: usize,
+    costs: *const RpCost,
+    cost_count: usize,
+}
+
+/// What a search is asked for, but for its tries: how boxes may be turned, what bins cost, and what else counts.
+pub(crate) struct Wanted {
+    pub(crate) seed: u64,
+    pub(crate) may_leave: bool,
+    pub(crate) turns: Vec<u32>,
+    pub(crate) costs: Vec<RpCost>,
+}
+
+impl Wanted {
+    /// The options as C takes them, without tries. The pointers are those of vectors, each with its length, so they are aligned and
+    /// not null; they are good for as long as the lists are borrowed.
+    pub(super) fn options(&self) -> RpSearchOptions {
+        RpSearchOptions {
+            size: mem::size_of::<RpSearchOptions>(),
+            tries: 0,
+            seed: self.seed,
+            may_leave: u32::from(self.may_leave),
+            turns: self.turns.as_ptr(),
+            turn_count: self.turns.len(),
+            costs: self.costs.as_ptr(),
+            cost_count: self.costs.len(),
+        }
+    }
+}
+
+/// Where a box stands that may be turned.
+#[repr(C)]
+#[derive(Clone, Copy, Default)]
+pub(crate) struct RpLocation {
+    pub(crate) bin: u32,
+    pub(crate) section: RpSection,
+}
+
+/// What a search found.
+#[repr(C)]
+#[derive(Default)]
+pub(crate) struct RpSearched {
+    pub(crate) left: usize,
+    pub(crate) used: usize,
+    pub(crate) least: usize,
+    pub(crate) is_optimal: u32,
+    pub(crate) tries: u64,
+}
+
+/// In place of how many bins are needed: no packer can place all boxes.
+pub(super) const NO_PACKING: usize = usize::MAX;
+
+#[repr(C)]
+pub(super) struct RpSearch {
+    pub(super) at: *mut u8,
+}
+
+/// How far a search is.
+#[repr(C)]
+#[derive(Default)]
+pub(super) struct RpProgress {
+    pub(super) tries: u64,
+    pub(super) left: RpVolume,
+    pub(super) cost: RpVolume,
+    pub(super) bins: usize,
+    pub(super) is_over: u32,
+}
+
 #[repr(C)]
 pub(super) struct RpSession {
     pub(super) at: *mut u8,
@@ -132,11 +237,11 @@ pub(super) struct RpCutStep {
 /// An outstanding placement.
 #[repr(C)]
 #[derive(Clone, Copy, Default)]
-pub(super) struct RpStanding {
-    pub(super) number: u64,
-    pub(super) index: u32,
-    pub(super) bin: u32,
-    pub(super) section: RpSection,
+pub(crate) struct RpStanding {
+    pub(crate) number: u64,
+    pub(crate) index: u32,
+    pub(crate) bin: u32,
+    pub(crate) section: RpSection,
 }
 
 /// A bin of a saved session.
@@ -227,6 +332,7 @@ pub(super) const NOT_FREE: u32 = 15;
 pub(super) const NOT_FROM_CUTS: u32 = 17;
 pub(super) const WRONG_PARTS: u32 = 18;
 pub(super) const WRONG_BOXES: u32 = 19;
+pub(super) const STEP_REFUSED: u32 = 20;
 
 /// Asks for the best heuristic of all.
 pub(crate) const BEST: u32 = 0xffff;
@@ -249,6 +355,43 @@ extern "C" {
         placements: *mut RpPlacement,
         placement_count: usize,
         fitted: *mut RpFitted,
+    ) -> u32;
+    pub(super) fn rectangle_pack_told(
+        bins: *const RpBin,
+        bin_count: usize,
+        collection: *const RpCollection,
+        steps: *const RpStep,
+        step_count: usize,
+        placements: *mut RpPlacement,
+        placement_count: usize,
+        refused: *mut RpRefused,
+    ) -> u32;
+    pub(super) fn rectangle_pack_least_bins(
+        bins: *const RpBin,
+        bin_count: usize,
+        collection: *const RpCollection,
+        turns: *const u32,
+        turn_count: usize,
+        least: *mut usize,
+    ) -> u32;
+    pub(super) fn rectangle_pack_search_begin(
+        bins: *const RpBin,
+        bin_count: usize,
+        collection: *const RpCollection,
+        options: *const RpSearchOptions,
+        search: *mut RpSearch,
+    ) -> u32;
+    pub(super) fn rectangle_pack_search_run(search: *mut RpSearch, tries: u64, progress: *mut RpProgress) -> u32;
+    pub(super) fn rectangle_pack_search_free(search: *mut RpSearch);
+    pub(super) fn rectangle_pack_found(
+        bins: *const RpBin,
+        bin_count: usize,
+        collection: *const RpCollection,
+        options: *const RpSearchOptions,
+        search: *mut RpSearch,
+        placements: *mut RpLocation,
+        placement_count: usize,
+        searched: *mut RpSearched,
     ) -> u32;
     pub(super) fn rectangle_pack_session_new(session: *mut RpSession) -> u32;
     pub(super) fn rectangle_pack_session_restore(
@@ -280,6 +423,30 @@ extern "C" {
         placements: *mut RpOutstanding,
         placement_count: usize,
         fitted: *mut RpFitted,
+    ) -> u32;
+    pub(super) fn rectangle_pack_session_pack_told(
+        session: *mut RpSession,
+        collection: *const RpCollection,
+        steps: *const RpStep,
+        step_count: usize,
+        placements: *mut RpOutstanding,
+        placement_count: usize,
+        refused: *mut RpRefused,
+    ) -> u32;
+    pub(super) fn rectangle_pack_session_search_begin(
+        session: *mut RpSession,
+        collection: *const RpCollection,
+        options: *const RpSearchOptions,
+        search: *mut RpSearch,
+    ) -> u32;
+    pub(super) fn rectangle_pack_session_pack_found(
+        session: *mut RpSession,
+        collection: *const RpCollection,
+        options: *const RpSearchOptions,
+        search: *mut RpSearch,
+        placements: *mut RpStanding,
+        placement_count: usize,
+        searched: *mut RpSearched,
     ) -> u32;
     pub(super) fn rectangle_pack_session_release(session: *mut RpSession, number: u64) -> u32;
     pub(super) fn rectangle_pack_session_release_all(

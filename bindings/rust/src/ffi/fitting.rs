@@ -27,7 +27,7 @@ pub(crate) fn fit(
         )
     };
     packed(status)?;
-    Ok(unless_left(&fitted, placements, |it| it.bin == LEFT_BIN))
+    Ok(said(&fitted, unless_left(placements, |it| it.bin == LEFT_BIN)))
 }
 
 impl Handle {
@@ -52,19 +52,18 @@ impl Handle {
                 &mut fitted,
             )
         })?;
-        Ok(unless_left(&fitted, placements, |it| it.number == LEFT_NUMBER))
+        Ok(said(&fitted, unless_left(placements, |it| it.number == LEFT_NUMBER)))
     }
 }
 
-fn unless_left<T>(
-    fitted: &RpFitted,
-    placements: Vec<T>,
-    is_left: impl Fn(&T) -> bool,
-) -> (Heuristic, Vec<Option<T>>) {
-    let listed: Vec<_> = placements
-        .into_iter()
-        .map(|it| Some(it).filter(|it| !is_left(it)))
-        .collect();
+/// The heuristic that packed, and what it placed.
+fn said<T>(fitted: &RpFitted, listed: Vec<Option<T>>) -> (Heuristic, Vec<Option<T>>) {
     debug_assert_eq!(fitted.left, listed.iter().filter(|it| it.is_none()).count());
     (Heuristic::of(fitted.heuristic), listed)
+}
+
+/// The placements, `None` for those of what is left.
+pub(super) fn unless_left<T>(placements: Vec<T>, is_left: impl Fn(&T) -> bool) -> Vec<Option<T>> {
+    let all = placements.into_iter();
+    all.map(|it| Some(it).filter(|it| !is_left(it))).collect()
 }

@@ -11,6 +11,13 @@ extern "C" {
         length: usize,
         count: *mut usize,
     ) -> u32;
+    fn rectangle_pack_session_outstanding_in(
+        session: *mut RpSession,
+        bin: u32,
+        placements: *mut RpStanding,
+        length: usize,
+        count: *mut usize,
+    ) -> u32;
     fn rectangle_pack_session_outstanding(
         session: *mut RpSession,
         placements: *mut RpStanding,
@@ -41,5 +48,17 @@ impl Handle {
         let all = placements.map_err(refusal)?;
         let told = all.iter().map(|it| (it.number, it.index, it.bin, section(&it.section)));
         Ok(told.collect())
+    }
+
+    /// The number of each placement in a bin.
+    pub(crate) fn outstanding_in(&self, bin: u32) -> Result<Vec<u64>, SessionError> {
+        let placements = read(0, |placements: *mut RpStanding, length, count| {
+            // SAFETY: as above.
+            unsafe {
+                rectangle_pack_session_outstanding_in(self.0.get(), bin, placements, length, count)
+            }
+        });
+        let all = placements.map_err(refusal)?;
+        Ok(all.iter().map(|it| it.number).collect())
     }
 }

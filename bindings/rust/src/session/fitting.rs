@@ -76,19 +76,14 @@ impl<RectId: Ord + Clone, BinId: Ord + Clone> Session<RectId, BinId> {
         rects: &'a GroupedRectsToPlace<RectId, GroupId>,
         heuristic: u32,
     ) -> Result<(Heuristic, FittedIn<'a, RectId, BinId, GroupId>), SessionError> {
-        let entries = rects.entries();
-        if u32::try_from(entries.len()).is_err() {
-            return Err(SessionError::TooMany);
-        }
+        let entries = self.entries_of(rects)?;
         let (chosen, listed) = self.handle.fit(&rects.collection(&entries), heuristic)?;
         let left = left_among(rects, &entries, &listed);
         let all = entries.iter().zip(&listed);
         let placed = all.filter_map(|(&(id, _), at)| Some((id, at.as_ref()?)));
-        let packed: Vec<_> = placed
-            .map(|(id, at)| self.named(id, rects.sizes[id], at))
-            .collect();
-        self.outstanding
-            .extend(packed.iter().map(|it| (it.number, it.clone())));
+        let packed = placed.map(|(id, at)| self.named(id, rects.sizes[id], at));
+        let packed = packed.collect();
+        let packed = self.taken_up(packed);
         Ok((chosen, Fitted { packed, left }))
     }
 }

@@ -3,7 +3,7 @@
 use std::error::Error;
 use std::fmt;
 
-use crate::PackedLocation;
+use crate::{AllocError, PackedLocation};
 
 /// A placement that is outstanding: it was not released, nor was its bin cleared.
 #[derive(Debug, Clone, PartialEq, Eq)]
@@ -128,3 +128,9 @@ impl fmt::Display for SessionError {
 }
 
 impl Error for SessionError {}
+
+impl From<AllocError> for SessionError {
+    fn from(_: AllocError) -> Self {
+        SessionError::OutOfMemory
+    }
+}

@@ -32,6 +32,11 @@ fn check_lists(session: &Session<u32, &str>, packed: &[Vec<u64>]) -> Result<(), 
     let mut numbers: Vec<_> = session.bins().map(|id| session.numbers[id]).collect();
     numbers.sort_unstable();
     assert_eq!(session.handle.bins()?, numbers);
+    for id in session.bins() {
+        let standing = session.outstanding_in(id)?;
+        let standing: Vec<_> = standing.iter().map(|it| it.number).collect();
+        assert_eq!(session.handle.outstanding_in(session.numbers[id])?, standing);
+    }
     Ok(())
 }
 
