@@ -8,11 +8,11 @@ from typing import Any, Generic
 from ._cuts import Axis, axis_number
 from ._errors import TooMany, naming
 from ._handle import Handle, alone
-from ._numbers import MOST_OF_64, SIDES, check_row, number as checked
-from ._types import BinName
+from ._numbers import MOST_OF_64, SIDES, Size, check_row, number as checked
+from ._types import Bin, BinName
 
 # No bin gets this id: by it bins are asked for that are not there.
-_NO_BIN = 2**32 - 1
+NO_BIN = 2**32 - 1
 
 
 class Bins(Handle, Generic[BinName]):
@@ -26,30 +26,48 @@ class Bins(Handle, Generic[BinName]):
         self._sides: dict[int, list[int]] = {}
         self._ids: dict[BinName, int] = {}
         self._next_id = 0
-        # The name of the box, its group and the id of its bin, for each number that is outstanding.
-        self._boxes: dict[int, tuple[Any, Hashable, int]] = {}
+        # What bins cost that do not cost 1, by their ids.
+        self._costs: dict[int, int] = {}
+        # The sizes of the bins, made when they are asked for.
+        self._stock: tuple[Bin, ...] | None = None
+        # The name of the box, its group, the id of its bin and whether it is turned, for each number that is outstanding.
+        self._boxes: dict[int, tuple[Any, Hashable, int, bool]] = {}
 
     def _id(self, bin: BinName) -> int:
         """The id of a bin. A name that is not known has that of no bin."""
-        return self._ids.get(bin, _NO_BIN)
+        return self._ids.get(bin, NO_BIN)
+
+    def _sizes_now(self) -> tuple[Bin, ...]:
+        """The sizes of the bins as they are now."""
+        if self._stock is None:
+            self._stock = tuple(Bin(*sides) for sides in self._sides.values())
+        return self._stock
 
     def _new_id(self, bin: BinName) -> int:
         """The id under which a bin is added. That of a name that is known is refused."""
         return self._ids.get(bin, self._next_id)
 
     @alone
-    def add_bin(self, bin: BinName, width: int, height: int, depth: int = 1) -> None:
-        """Adds a bin of this size under a name of the caller's choice. It stays until it is removed or the session is closed.
+    def add_bin(self, bin: BinName, width: int, height: int, depth: int = 1, *, cost: int = 1) -> None:
+        """Adds a bin of this size under a name of the caller's choice. It stays until it is removed or the session is closed. cost
+        is what it costs to use it, which counts where a packing is searched for.
 
         Raises DuplicateBin or OutOfMemory; or TooMany, once 2**32 - 1 bins were added, also where they were removed."""
         size, id = (width, height, depth), self._new_id(bin)
         check_row("bin", bin, SIDES, size)
-        if id == _NO_BIN:
+        checked(cost, f"bin {bin!r}: cost", MOST_OF_64)
+        if id == NO_BIN:
             raise TooMany()
         with naming(bin):
             self._call("add_bin", id, *size)
-        self._ids[bin], self._names[id], self._sides[id] = id, bin, list(size)
+        self._keep_bin(bin, id, size, cost)
         self._next_id += 1
+
+    def _keep_bin(self, bin: BinName, id: int, size: Size, cost: int) -> None:
+        """Keeps what the library does not know of a bin that was added."""
+        self._ids[bin], self._names[id], self._sides[id], self._stock = id, bin, list(size), None
+        if cost != 1:
+            self._costs[id] = cost
 
     @alone
     def grow_bin(self, bin: BinName, axis: Axis, by: int) -> None:
@@ -67,6 +85,7 @@ class Bins(Handle, Generic[BinName]):
         with naming(bin):
             self._call("grow_bin", id, number, by)
         self._sides[id][number] += by
+        self._stock = None
 
     @alone
     def clear_bin(self, bin: BinName) -> None:
@@ -75,7 +94,7 @@ class Bins(Handle, Generic[BinName]):
 
         Raises UnknownBin or OutOfMemory."""
         id = self._id(bin)
-        here = [number for number, (_, _, home) in self._boxes.items() if home == id]
+        here = [number for number, (_, _, home, _) in self._boxes.items() if home == id]
         with naming(bin):
             self._call("clear_bin", id)
         for number in here:
@@ -112,6 +131,8 @@ class Bins(Handle, Generic[BinName]):
         with naming(bin):
             self._call("remove_bin", id)
         del self._ids[bin], self._names[id], self._sides[id]
+        self._costs.pop(id, None)
+        self._stock = None
 
     @alone
     def coalesce_all(self, bin: BinName) -> None:

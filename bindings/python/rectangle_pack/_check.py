@@ -6,33 +6,24 @@ from collections.abc import Hashable, Iterable, Mapping, Sequence
 from typing import Any
 
 from . import _library
-from ._collection import Collection, items_of, names_and_sizes
-from ._errors import UnknownBox, UnknownTurn
+from ._collection import Collection
 from ._faults import Fault, FaultKind
 from ._numbers import check_rows
-from ._types import Bin, BinName, Box, BoxName, Groups, Pairs, Placement, Section, Turn
-
-# The library's numbers add up: by 1 height and depth may change places, by 2 width and depth, by 4 width and height.
-_TURNS: Mapping[str, int] = {"none": 0, "flat": 4, "upright": 2, "any": 1 + 2 + 4}
+from ._stock import Stock
+from ._turning import turn_numbers
+from ._types import Bin, BinName, Box, BoxName, Groups, Pairs, Placement, Section, Turning
 
 _Placements = Sequence[Placement[BoxName, BinName]]
-
-
-def _number_of(turn: str, *box: Hashable) -> int:
-    """The number of a turn, of one box or of all."""
-    if turn not in _TURNS:
-        raise UnknownTurn(turn, *box)
-    return _TURNS[turn]
 
 
 class _Boxes:
     """The boxes that are to be placed: an entry for each, and one for each further group of a box."""
 
-    def __init__(self, collection: Collection[Any], turn: Turn | Mapping[Any, Turn] | Iterable[Turn]) -> None:
+    def __init__(self, collection: Collection[Any], turn: Turning[Any]) -> None:
         self._collection = collection
         self.entries = collection.entries()
         self._indices = self._by_names()
-        self._turns = self._turns_of(turn)
+        self._turns = turn_numbers(collection.names, turn)
 
     def _by_names(self) -> dict[tuple[Any, Hashable], list[int]]:
         """The indices of the entries by name and group, and by the name alone where a box is placed once."""
@@ -45,17 +36,6 @@ class _Boxes:
             if len(own) == 1:
                 indices[name, None] = own
         return indices
-
-    def _turns_of(self, turn: Turn | Mapping[Any, Turn] | Iterable[Turn]) -> dict[Any, int]:
-        """How each box may be turned."""
-        if isinstance(turn, str):
-            return dict.fromkeys((name for name, _, _ in self.entries), _number_of(turn))
-        turns = {name: 0 for name, _, _ in self.entries}
-        for name, it in items_of(turn):
-            if name not in turns:
-                raise UnknownBox(name)
-            turns[name] = _number_of(it, name)
-        return turns
 
     def rows(self) -> list[tuple[int, ...]]:
         """The entries as C takes them."""
@@ -74,14 +54,18 @@ class _Boxes:
         return found
 
 
-def _claims(placements: _Placements[Any, Any], bins: Sequence[Any], boxes: _Boxes) -> list[tuple[int, ...]]:
+def _claims(
+    placements: _Placements[Any, Any], ids: Mapping[tuple[Any, int], int], boxes: _Boxes,
+) -> list[tuple[int, ...]]:
     """The placements as C takes them. A bin that is not there has an index behind all others."""
-    ids = {name: index for index, name in enumerate(bins)}
-    sections = [it.section for it in placements]
-    check_rows("placement of box", [it.name for it in placements], Section._fields, sections)
     return [
-        (index, ids.get(it.bin, len(bins)), *section)
-        for index, it, section in zip(boxes.indices(placements), placements, sections)]
+        (index, ids.get((it.bin, it.copy), len(ids)), *it.section)
+        for index, it in zip(boxes.indices(placements), placements)]
+
+
+def _check_numbers(placements: _Placements[Any, Any]) -> None:
+    rows = [(*it.section, it.copy) for it in placements]
+    check_rows("placement of box", [it.name for it in placements], (*Section._fields, "copy"), rows)
 
 
 def _fault(
@@ -102,7 +86,7 @@ def _fault(
 def check(
     bins: Mapping[Any, Bin] | Sequence[Bin], boxes: Mapping[Any, Box] | Sequence[Box],
     placements: Iterable[Placement[BoxName, BinName]], *, groups: Groups[Any] | None = None, exclude: Pairs = (),
-    turn: Turn | Mapping[Any, Turn] | Sequence[Turn] = "none",
+    turn: Turning[Any] = "none",
 ) -> Fault[BoxName, BinName] | None:
     """The first fault of a packing, whoever made it. None says that it is one: each box is placed once, in its size, inside its
     bin; no two share a cell; each group is in one bin; and no two groups that are excluded share one.
@@ -120,7 +104,8 @@ def check(
     'hat' and 'cap' share a cell of bin 'page': (0, 0, 0) 10x20x1 and (5, 5, 0) 4x4x1
 
     turn says which sides of boxes may change places: "flat" width and height, "upright" width and depth, "any" all three,
-    "none" none. It is one word for all boxes, or a word for each box by name. Boxes that are not named stand as they are.
+    "none" none. It is one word for all boxes, or a word for each box by name. Boxes that are not named stand as they are. Whether a
+    placement says that its box is turned does not count.
 
     The fault is that of the first placement that may not stand with those before it: what is wrong with it alone, or else
     beside earlier ones, in the order of FaultKind and with the first of them. Where all may stand it is the first box that is
@@ -128,12 +113,14 @@ def check(
 
     Raises OutOfMemory or TooMany; before anything is looked at UnknownTurn, UnknownBox, UnknownGroup or EqualGroups, which are
     ValueErrors; and ValueError or TypeError where a size or a corner is not of numbers of 32 bits."""
-    names, sizes = names_and_sizes(bins)
+    stock, given = Stock(bins), list(placements)
     collection: Collection[Any] = Collection(boxes, groups or {}, exclude)
-    to_place, given = _Boxes(collection, turn), list(placements)
-    entries, claims, found = to_place.rows(), _claims(given, names, to_place), _library.RpFault()
+    to_place = _Boxes(collection, turn)
+    _check_numbers(given)
+    offer, ids = stock.only((it.bin, it.copy) for it in given)
+    entries, claims, found = to_place.rows(), _claims(given, ids, to_place), _library.RpFault()
     _library.check(_library.call(
-        "check", _library.listed(_library.RpBin, sizes), len(sizes), _library.listed(_library.RpEntry, entries), len(entries),
+        "check", *offer.as_c(), _library.listed(_library.RpEntry, entries), len(entries),
         _library.listed(_library.RpExclusion, collection.excluded), len(collection.excluded),
         _library.listed(_library.RpClaim, claims), len(claims), found))
     return _fault(found, given, to_place)

@@ -30,8 +30,10 @@ def items_of(values: Mapping[Any, _Value] | Iterable[_Value]) -> Iterable[tuple[
     return values.items() if isinstance(values, Mapping) else enumerate(values)
 
 
-def bin_of(name: Hashable, size: Iterable[int]) -> Bin:
+def bin_of(name: Hashable, size: Iterable[Any]) -> Bin:
     """A bin, which may be given as a plain tuple."""
+    if type(size) is Bin:
+        return size
     try:
         return Bin(*size)
     except TypeError:
@@ -48,14 +50,6 @@ def box_of(name: Hashable, box: Iterable[Any]) -> Box:
         raise TypeError(f"box {name!r}: {box!r} is no box: write Box(width, height)") from None
 
 
-def names_and_sizes(bins: Mapping[Any, Bin] | Iterable[Bin]) -> tuple[list[Any], list[Bin]]:
-    """The names of bins, and their sizes."""
-    named = list(items_of(bins))
-    names, sizes = [name for name, _ in named], [bin_of(name, size) for name, size in named]
-    check_rows("bin", names, SIDES, sizes)
-    return names, sizes
-
-
 def _refuse_pair(pair: object) -> NoReturn:
     raise TypeError(f"{pair!r} is no pair of groups: write exclude=[('food', 'paint')]")
 
@@ -69,9 +63,9 @@ class Collection(Generic[BoxName]):
 
     def __init__(self, boxes: Mapping[BoxName, Box] | Iterable[Box], groups: Groups[BoxName], exclude: Pairs) -> None:
         named = [(name, box_of(name, box)) for name, box in items_of(boxes)]
-        self._names: list[BoxName] = [name for name, _ in named]
+        self.names: list[BoxName] = [name for name, _ in named]
         self._sizes: list[Size] = [box[:3] for _, box in named]
-        check_rows("box", self._names, SIDES, self._sizes)
+        check_rows("box", self.names, SIDES, self._sizes)
         self._groups = [box.group for _, box in named]
         self._members: list[tuple[int, Hashable]] = []
         # A box that is in no group has the number 0 there.
@@ -84,7 +78,7 @@ class Collection(Generic[BoxName]):
 
     def _number_own(self) -> None:
         """Numbers the groups that boxes say themselves."""
-        for name, group in zip(self._names, self._groups):
+        for name, group in zip(self.names, self._groups):
             if group is not None:
                 try:
                     self._number(group)
@@ -100,7 +94,7 @@ class Collection(Generic[BoxName]):
     def _add_groups(self, groups: Groups[BoxName]) -> None:
         if isinstance(groups, (str, bytes)):
             raise TypeError(f"{groups!r} has no groups: write groups={{'hats': ['hat', 'cap']}}")
-        indices = {name: index for index, name in enumerate(self._names)}
+        indices = {name: index for index, name in enumerate(self.names)}
         for group, names in items_of(groups):
             self._number(group)
             # A text would be read letter by letter.
@@ -135,8 +129,25 @@ class Collection(Generic[BoxName]):
 
     def entries(self) -> list[tuple[BoxName, Hashable, Size]]:
         """The name, the group and the size of each box, and then those of each member."""
-        own = zip(self._names, self._groups, self._sizes)
-        return [*own, *((self._names[index], group, self._sizes[index]) for index, group in self._members)]
+        own = zip(self.names, self._groups, self._sizes)
+        return [*own, *((self.names[index], group, self._sizes[index]) for index, group in self._members)]
+
+    def group_names(self) -> list[Hashable]:
+        """The names of all groups, also of those without boxes."""
+        return [group for group in self._numbers if group is not None]
+
+    def entry_count(self) -> int:
+        """How many entries there are."""
+        return len(self._sizes) + len(self._members)
+
+    def group_count(self) -> int:
+        """How many groups have boxes, a box that is alone as one."""
+        named = {*self._groups, *(group for _, group in self._members)}
+        return self._groups.count(None) + len(named - {None})
+
+    def cells(self) -> int:
+        """The cells of all entries."""
+        return sum(width * height * depth for _, _, (width, height, depth) in self.entries())
 
     def number_of(self, group: Hashable) -> int:
         """The number of a group that was named; 0 for None, as where a box is alone."""

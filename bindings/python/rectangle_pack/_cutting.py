@@ -44,7 +44,7 @@ def _rows_of(boxes: Iterable[_Standing]) -> list[Section]:
 def _ask(size: Bin, rows: Sequence[Section], wrong: _library.RpWrong) -> tuple[int, list[CutStep]]:
     """The status, and the steps. A whole plan is made each time, so the first array has room for most plans: for each box there are
     seldom more than three free sections, so four leaves."""
-    bin, boxes = _library.RpBin(*size), _library.listed(_library.RpSection, rows)
+    bin, boxes = _library.RpBin(*size[:3]), _library.listed(_library.RpSection, rows)
     count, status = ctypes.c_size_t(8 * (len(rows) + 1)), _library.SHORT_ARRAY
     while status == _library.SHORT_ARRAY:
         length = count.value
@@ -71,7 +71,7 @@ def straight_cuts(bin: Bin, boxes: Iterable[_Standing]) -> list[CutStep] | None:
     Raises WrongBoxes, which is a ValueError, where a box is outside the bin, or two share a cell; OutOfMemory; and ValueError or
     TypeError where a size or a corner is not of numbers of 32 bits."""
     size, rows, wrong = Bin(*bin), _rows_of(boxes), _library.RpWrong()
-    for field, side in zip(SIDES, size):
+    for field, side in zip(SIDES, size[:3]):
         number(side, f"bin: {field}")
     status, steps = _ask(size, rows, wrong)
     if status == _WRONG_BOXES:

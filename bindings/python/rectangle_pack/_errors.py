@@ -16,8 +16,8 @@ class PackError(Exception):
 
 class NotEnoughBinSpace(PackError):
     """For some group each bin is excluded or does not take all of its boxes, as the groups before it left the bins. With the
-    heuristic "best" this is so with each heuristic. With partial such a group is left instead. Or no free section holds a box
-    of place_best."""
+    heuristic "best" this is so with each heuristic, and so it is with a search that found no way. With partial such a group is left
+    instead. Or no free section holds a box of place_best."""
 
     text = "Not enough space to place all of the rectangles"
 
@@ -53,13 +53,13 @@ class _OfAnother(PackError):
 
 
 class UnknownBox(_OfAnother, ValueError):
-    """A group names a box that is not packed; or the turns of a packing that is judged name one that is not there."""
+    """A group names a box that is not packed; or turn names one that is not there."""
 
     text, owner = "There is no such box", "group"
 
 
 class UnknownGroup(PackError, ValueError):
-    """A group is excluded that neither a box nor the mapping of groups names."""
+    """A group is excluded that neither a box nor the mapping of groups names; or a step names what is no group and no box."""
 
     text = "There is no such group"
 

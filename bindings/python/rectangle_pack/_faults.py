@@ -44,7 +44,8 @@ def _named(name: Hashable, group: Hashable) -> str:
 def _told(which: str, it: Placement[Any, Any]) -> dict[str, str]:
     """What the texts say of a placement, by the words in them."""
     place = f"({it.x}, {it.y}, {it.z}) {it.width}x{it.height}x{it.depth}"
-    return {which: _named(it.name, it.group), f"{which}_bin": repr(it.bin), f"{which}_place": place}
+    bin = f"{it.bin!r} (copy {it.copy})" if it.copy else repr(it.bin)
+    return {which: _named(it.name, it.group), f"{which}_bin": bin, f"{which}_place": place}
 
 
 @dataclass(frozen=True)

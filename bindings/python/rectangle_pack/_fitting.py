@@ -8,7 +8,8 @@ from typing import Any
 from . import _library
 from ._collection import HEURISTICS
 from ._numbers import MOST, MOST_OF_64, Size
-from ._types import Heuristic, Left
+from ._stock import Offer
+from ._types import Heuristic, Left, Placement
 
 # The name, the group and the size of each box, and where it stands, as the library says it.
 _Entry = tuple[Any, Hashable, Size]
@@ -39,3 +40,10 @@ def parted(rows: Rows, left_first: int) -> tuple[Rows, tuple[Left, ...]]:
         else:
             placed.append((entry, row))
     return placed, tuple(left)
+
+
+def placements_of(rows: Rows, offer: Offer) -> tuple[Placement[Any, Any], ...]:
+    """Where boxes stand that are not turned, of the index of the bin and the corner of each."""
+    names, copies = offer.names, offer.copies
+    return tuple(
+        Placement(name, group, names[bin], x, y, z, *size, copies[bin]) for (name, group, size), (bin, x, y, z) in rows)

@@ -1,4 +1,4 @@
-"""The shared library, as ctypes sees it: the types and the calls of include/rectangle_pack.h."""
+"""The shared library, as ctypes sees it: the calls of include/rectangle_pack.h."""
 from __future__ import annotations
 
 import ctypes
@@ -14,114 +14,14 @@ from ._errors import (
     BinInUse, DuplicateBin, EqualGroups, NotASession, NotEnoughBinSpace, NotFree, NotFromCuts, NumbersUsedUp, OutOfMemory,
     PackError, TooLarge, TooMany, UnknownAxis, UnknownBin, UnknownBox, UnknownHeuristic, UnknownPlacement,
 )
-
-
-def _uint32(*names: str) -> list[tuple[str, type[ctypes.c_uint32]]]:
-    return [(name, ctypes.c_uint32) for name in names]
-
-
-class RpBin(ctypes.Structure):
-    _fields_ = _uint32("width", "height", "depth")
-
-
-class RpBox(ctypes.Structure):
-    _fields_ = _uint32("width", "height", "depth", "group")
-
-
-class RpMember(ctypes.Structure):
-    _fields_ = _uint32("index", "group")
-
-
-class RpExclusion(ctypes.Structure):
-    _fields_ = _uint32("one", "other")
-
-
-class RpCollection(ctypes.Structure):
-    _fields_ = [
-        ("boxes", ctypes.POINTER(RpBox)), ("box_count", ctypes.c_size_t),
-        ("members", ctypes.POINTER(RpMember)), ("member_count", ctypes.c_size_t),
-        ("exclusions", ctypes.POINTER(RpExclusion)), ("exclusion_count", ctypes.c_size_t),
-    ]
-
-
-class RpPlacement(ctypes.Structure):
-    _fields_ = _uint32("bin", "x", "y", "z")
-
-
-class RpFitted(ctypes.Structure):
-    _fields_ = [*_uint32("heuristic"), ("left", ctypes.c_size_t)]
-
-
-class RpSession(ctypes.Structure):
-    _fields_ = [("at", ctypes.c_void_p)]
-
-
-class RpOutstanding(ctypes.Structure):
-    _fields_ = [("number", ctypes.c_uint64), ("placement", RpPlacement)]
-
-
-class RpVolume(ctypes.Structure):
-    _fields_ = [("low", ctypes.c_uint64), ("high", ctypes.c_uint64)]
-
-
-class RpStats(ctypes.Structure):
-    _fields_ = [
-        ("bin_volume", RpVolume), ("free_volume", RpVolume), ("placed_volume", RpVolume),
-        ("free_sections", ctypes.c_size_t), ("placements", ctypes.c_size_t),
-    ]
-
-
-class RpSection(ctypes.Structure):
-    _fields_ = _uint32("x", "y", "z", "width", "height", "depth")
-
-
-class RpStanding(ctypes.Structure):
-    _fields_ = [("number", ctypes.c_uint64), *_uint32("index", "bin"), ("section", RpSection)]
-
-
-class RpCutStep(ctypes.Structure):
-    _fields_ = _uint32("axis", "place")
-
-
-class RpEntry(ctypes.Structure):
-    _fields_ = [("rect", RpBox), *_uint32("turns")]
-
-
-class RpClaim(ctypes.Structure):
-    _fields_ = [*_uint32("entry", "bin"), ("section", RpSection)]
-
-
-class RpFault(ctypes.Structure):
-    _fields_ = _uint32("kind", "first", "second")
-
-
-class RpSavedBin(ctypes.Structure):
-    _fields_ = [*_uint32("id"), ("size", RpBin), *_uint32("coalesced", "section_count")]
-
-
-class RpSaved(ctypes.Structure):
-    _fields_ = [
-        ("bins", ctypes.POINTER(RpSavedBin)), ("bin_count", ctypes.c_size_t),
-        ("sections", ctypes.POINTER(RpSection)), ("section_count", ctypes.c_size_t),
-        ("placements", ctypes.POINTER(RpStanding)), ("placement_count", ctypes.c_size_t), ("next_number", ctypes.c_uint64),
-    ]
-
-
-class RpWrong(ctypes.Structure):
-    _fields_ = [*_uint32("kind"), ("bin", ctypes.c_size_t), ("first", ctypes.c_size_t), ("second", ctypes.c_size_t)]
-
-
-class BinId(ctypes.Structure):
-    """An entry of the list of bins."""
-    _fields_ = _uint32("bin")
-
+from ._structures import *
 
 Entry = TypeVar("Entry", bound=ctypes.Structure)
 
-SHORT_ARRAY, NO_PLAN, WRONG_PARTS = 8, 9, 18
+NOT_ENOUGH_SPACE, SHORT_ARRAY, NO_PLAN, WRONG_PARTS, STEP_REFUSED = 1, 8, 9, 18, 20
 
 ERRORS: dict[int, type[PackError]] = {
-    1: NotEnoughBinSpace, 2: OutOfMemory, 3: TooMany,
+    NOT_ENOUGH_SPACE: NotEnoughBinSpace, 2: OutOfMemory, 3: TooMany,
     4: DuplicateBin, 5: UnknownBin, 6: UnknownPlacement, 7: NumbersUsedUp,
     10: UnknownHeuristic, 11: UnknownBox, 12: EqualGroups, 13: BinInUse, 14: TooLarge, 15: NotFree,
     16: UnknownAxis, 17: NotFromCuts, 18: NotASession,
@@ -143,7 +43,15 @@ def _list_of(kind: type[ctypes.Structure]) -> list[type[object]]:
     return [ctypes.POINTER(kind), ctypes.c_size_t]
 
 
-_SESSION = ctypes.POINTER(RpSession)
+def _steps_of(kind: type[ctypes.Structure]) -> list[type[object]]:
+    """What a call that is told steps is given: a collection, the steps, an array, and where it tells what it refuses."""
+    return [ctypes.POINTER(RpCollection), *_list_of(RpStep), *_list_of(kind), ctypes.POINTER(RpRefused)]
+
+
+_SESSION, _SEARCH = ctypes.POINTER(RpSession), ctypes.POINTER(RpSearch)
+
+# A collection, the options, and the search.
+_SEARCHING = [ctypes.POINTER(RpCollection), ctypes.POINTER(RpSearchOptions), _SEARCH]
 
 # A box, a heuristic, and where the placement goes.
 _BEST_PLACE = [ctypes.POINTER(RpBox), ctypes.c_uint32, ctypes.POINTER(RpOutstanding)]
@@ -151,6 +59,13 @@ _BEST_PLACE = [ctypes.POINTER(RpBox), ctypes.c_uint32, ctypes.POINTER(RpOutstand
 _ARGUMENTS = {
     "collection": [*_list_of(RpBin), *_places_of(RpPlacement)],
     "fitting": [*_list_of(RpBin), *_places_of(RpPlacement, RpFitted)],
+    "told": [*_list_of(RpBin), *_steps_of(RpPlacement)],
+    "least_bins": [
+        *_list_of(RpBin), ctypes.POINTER(RpCollection), *_list_of(RpTurns), ctypes.POINTER(ctypes.c_size_t)],
+    "search_begin": [*_list_of(RpBin), *_SEARCHING],
+    "search_run": [_SEARCH, ctypes.c_uint64, ctypes.POINTER(RpProgress)],
+    "search_free": [_SEARCH],
+    "found": [*_list_of(RpBin), *_SEARCHING, *_list_of(RpLocation), ctypes.POINTER(RpSearched)],
     "check": [*_list_of(RpBin), *_list_of(RpEntry), *_list_of(RpExclusion), *_list_of(RpClaim), ctypes.POINTER(RpFault)],
     "straight_cuts": [ctypes.POINTER(RpBin), *_list_of(RpSection), *_array_of(RpCutStep), ctypes.POINTER(RpWrong)],
     "session_new": [_SESSION],
@@ -159,6 +74,9 @@ _ARGUMENTS = {
     "session_add_bin": [_SESSION] + [ctypes.c_uint32] * 4,
     "session_pack_collection": [_SESSION, *_places_of(RpOutstanding)],
     "session_pack_fitting": [_SESSION, *_places_of(RpOutstanding, RpFitted)],
+    "session_pack_told": [_SESSION, *_steps_of(RpOutstanding)],
+    "session_search_begin": [_SESSION, *_SEARCHING],
+    "session_pack_found": [_SESSION, *_SEARCHING, *_list_of(RpStanding), ctypes.POINTER(RpSearched)],
     "session_release": [_SESSION, ctypes.c_uint64],
     "session_release_all": [_SESSION, ctypes.POINTER(ctypes.c_uint64), ctypes.c_size_t],
     "session_coalesce_all": [_SESSION, ctypes.c_uint32],
@@ -174,13 +92,14 @@ _ARGUMENTS = {
     "session_bins": [_SESSION, *_array_of(BinId)],
     "session_free_sections": [_SESSION, ctypes.c_uint32, *_array_of(RpSection)],
     "session_outstanding": [_SESSION, *_array_of(RpStanding)],
+    "session_outstanding_in": [_SESSION, ctypes.c_uint32, *_array_of(RpStanding)],
     "session_cut_plan": [_SESSION, ctypes.c_uint32, *_array_of(RpCutStep)],
     "session_was_coalesced": [_SESSION, ctypes.c_uint32, ctypes.POINTER(ctypes.c_uint32)],
     "session_next_number": [_SESSION],
 }
 
 # All others answer a status.
-_RESULTS = {"session_free": None, "session_next_number": ctypes.c_uint64}
+_RESULTS = {"session_free": None, "search_free": None, "session_next_number": ctypes.c_uint64}
 
 
 def _path() -> str:
@@ -227,7 +146,9 @@ def _format(kind: type[Any]) -> str:
 @functools.lru_cache(maxsize=None)
 def row_of(kind: type[ctypes.Structure]) -> struct.Struct:
     """By it the numbers of a structure become bytes, and bytes become numbers, many rows at a time."""
-    return struct.Struct(_format(kind))
+    numbers = _format(kind)
+    # A structure with numbers of 64 bits ends where the next one may begin.
+    return struct.Struct(numbers + "0Q" if "Q" in numbers else numbers)
 
 
 def listed(kind: type[Entry], rows: Iterable[tuple[int, ...]]) -> ctypes._Pointer[Entry]:

@@ -6,6 +6,7 @@ from collections.abc import Iterable
 from typing import Any
 
 from . import _library
+from ._bounding import least_of_box
 from ._collection import HEURISTICS, heuristic_number
 from ._errors import NotFree, UnknownHeuristic, UnknownPlacement, naming
 from ._handle import alone
@@ -49,12 +50,12 @@ class Placing(Reading[BinName]):
                 "session_pack_collection", self._handle, it.collection, asked, it.place, 1, it.chosen))
             placed, chosen = self._stands(name, size, it.place), it.chosen.value
             self._one_boxes.append(it)
-        return Packing(HEURISTICS[chosen], (placed,))
+        return Packing(HEURISTICS[chosen], (placed,), (), least_of_box, self._stock or self._sizes_now(), size)
 
     def _stands(self, name: Any, size: Size, place: _library.RpOutstanding) -> Outstanding[Any, BinName]:
         """Keeps the name of a box that is alone, and says where it stands."""
         number, id, x, y, z = OUTSTANDING.unpack(place)
-        self._boxes[number] = (name, None, id)
+        self._boxes[number] = (name, None, id, False)
         return Outstanding(name, None, self._names[id], x, y, z, *size, number)
 
     @alone
@@ -72,7 +73,7 @@ class Placing(Reading[BinName]):
         check_row("box", name, Section._fields, place)
         with naming(bin), naming(place, (NotFree,)):
             self._call("place_at", id, _library.RpSection(*place), number)
-        self._boxes[number.value] = (name, None, id)
+        self._boxes[number.value] = (name, None, id, False)
         return Outstanding(name, None, self._names[id], *place, number.value)
 
     @alone

@@ -1,6 +1,7 @@
 """What is read of a session."""
 from __future__ import annotations
 
+from collections.abc import Iterable
 from typing import Any
 
 from . import _library
@@ -9,12 +10,6 @@ from ._cuts import CutStep, CutTree, steps_of, tree_of
 from ._errors import naming
 from ._handle import alone
 from ._types import BinName, Outstanding, Section, Stats
-
-
-def _volume(parts: _library.RpVolume) -> int:
-    low: int = parts.low
-    high: int = parts.high
-    return low + (high << 64)
 
 
 class Reading(Bins[BinName]):
@@ -42,10 +37,27 @@ class Reading(Bins[BinName]):
     @alone
     def outstanding(self) -> list[Outstanding[Any, BinName]]:
         """The outstanding placements of all bins, in the order of their numbers."""
+        return self._standing(self._read("outstanding", _library.RpStanding))
+
+    @alone
+    def outstanding_in(self, bin: BinName) -> list[Outstanding[Any, BinName]]:
+        """The outstanding placements of one bin, in the order of their numbers.
+
+        >>> with Session({"page": Bin(4, 4), "next": Bin(4, 4)}) as session:
+        ...     packing = session.pack({"hat": Box(4, 3), "cap": Box(4, 2)})
+        ...     [it.name for it in session.outstanding_in("next")]
+        ['cap']
+
+        Raises UnknownBin."""
+        with naming(bin):
+            return self._standing(self._read("outstanding_in", _library.RpStanding, self._id(bin)))
+
+    def _standing(self, rows: Iterable[tuple[int, ...]]) -> list[Outstanding[Any, BinName]]:
+        """The placements that the library listed."""
         standing = []
-        for number, _, id, x, y, z, width, height, depth in self._read("outstanding", _library.RpStanding):
-            name, group, _ = self._boxes[number]
-            standing.append(Outstanding(name, group, self._names[id], x, y, z, width, height, depth, number))
+        for number, _, id, x, y, z, width, height, depth in rows:
+            name, group, _, turned = self._boxes[number]
+            standing.append(Outstanding(name, group, self._names[id], x, y, z, width, height, depth, number, turned=turned))
         return standing
 
     @alone
@@ -96,5 +108,4 @@ class Reading(Bins[BinName]):
         it = _library.RpStats()
         with naming(bin):
             self._call("stats", self._id(bin), it)
-        volumes = (_volume(it.bin_volume), _volume(it.free_volume), _volume(it.placed_volume))
-        return Stats(*volumes, it.free_sections, it.placements)
+        return Stats(int(it.bin_volume), int(it.free_volume), int(it.placed_volume), it.free_sections, it.placements)

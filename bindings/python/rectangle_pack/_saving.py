@@ -7,7 +7,7 @@ from typing import Any, NamedTuple
 
 from . import _library
 from ._errors import NotASession
-from ._numbers import MOST, MOST_OF_64, number
+from ._numbers import MOST, MOST_OF_64, SIDES, number
 from ._types import Bin, Section
 
 # What a file says that it is. Files of a later version are refused.
@@ -15,7 +15,7 @@ _FORMAT, _VERSION = "session", 1
 
 
 class SavedBin(NamedTuple):
-    """A bin: its name, its size, whether it counts as coalesced, and its free sections."""
+    """A bin: its name, its size and its cost, whether it counts as coalesced, and its free sections."""
     name: Hashable
     size: Bin
     coalesced: bool
@@ -23,13 +23,14 @@ class SavedBin(NamedTuple):
 
 
 class SavedPlacement(NamedTuple):
-    """An outstanding placement: its number, the name and the group of its box, the place of its bin in the list, and where it
-    stands there."""
+    """An outstanding placement: its number, the name and the group of its box, the place of its bin in the list, where it stands
+    there, and whether it is turned."""
     number: int
     name: Hashable
     group: Hashable
     bin: int
     section: Section
+    turned: bool = False
 
 
 class Saved(NamedTuple):
@@ -41,14 +42,21 @@ class Saved(NamedTuple):
     def text(self) -> str:
         """The text of the file."""
         bins = [
-            {"name": _written(it.name), **it.size._asdict(), "coalesced": it.coalesced, "free": it.free} for it in self.bins]
+            {"name": _written(it.name), **_sides(it.size), "coalesced": it.coalesced, "free": it.free} for it in self.bins]
         placements = [
-            {"number": it.number, "name": _written(it.name), "group": _written(it.group), "bin": it.bin, "at": it.section}
+            {"number": it.number, "name": _written(it.name), "group": _written(it.group), "bin": it.bin, "at": it.section,
+             **({"turned": True} if it.turned else {})}
             for it in self.placements]
         whole = {
             "rectangle_pack": _FORMAT, "version": _VERSION, "next_number": self.next_number, "bins": bins,
             "placements": placements}
         return json.dumps(whole, ensure_ascii=False, separators=(",", ":")) + "\n"
+
+
+def _sides(size: Bin) -> dict[str, int]:
+    """The sides of a bin, and its cost where that is not 1."""
+    sides = dict(zip(SIDES, size[:3]))
+    return sides if size.cost == 1 else {**sides, "cost": size.cost}
 
 
 def _written(name: Hashable) -> Any:
@@ -73,6 +81,11 @@ class _Value:
         if not isinstance(self._value, dict) or name not in self._value:
             raise self.wrong(f"has no {name}")
         return _Value(self._value[name], f"{self._where}.{name}".lstrip("."))
+
+    def get(self, name: str, default: Any) -> _Value:
+        """The field of this name, which may be left out."""
+        value = self._value.get(name, default) if isinstance(self._value, dict) else default
+        return _Value(value, f"{self._where}.{name}".lstrip("."))
 
     def items(self) -> list[_Value]:
         if not isinstance(self._value, list):
@@ -108,13 +121,15 @@ class _Value:
 
 
 def _bin(it: _Value) -> SavedBin:
-    size = Bin(*(it[side].number() for side in Bin._fields))
+    width, height, depth = (it[side].number() for side in SIDES)
+    size = Bin(width, height, depth, cost=it.get("cost", 1).number(MOST_OF_64))
     return SavedBin(it["name"].name(), size, it["coalesced"].truth(), [one.section() for one in it["free"].items()])
 
 
 def _placement(it: _Value) -> SavedPlacement:
     return SavedPlacement(
-        it["number"].number(MOST_OF_64), it["name"].name(), it["group"].name(), it["bin"].number(), it["at"].section())
+        it["number"].number(MOST_OF_64), it["name"].name(), it["group"].name(), it["bin"].number(), it["at"].section(),
+        it.get("turned", False).truth())
 
 
 def saved_of(text: str) -> Saved:
@@ -147,7 +162,7 @@ def _look_for_equal_names(saved: Saved) -> None:
 def as_c(saved: Saved) -> _library.RpSaved:
     """The parts as C takes them. The ids of bins are their places in the list."""
     sections = [section for it in saved.bins for section in it.free]
-    bins = [(index, *it.size, int(it.coalesced), len(it.free)) for index, it in enumerate(saved.bins)]
+    bins = [(index, *it.size[:3], int(it.coalesced), len(it.free)) for index, it in enumerate(saved.bins)]
     placements = [(it.number, 0, it.bin, *it.section) for it in saved.placements]
     return _library.RpSaved(
         _library.listed(_library.RpSavedBin, bins), len(bins), _library.listed(_library.RpSection, sections), len(sections),

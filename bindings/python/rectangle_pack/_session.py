@@ -2,7 +2,7 @@
 from __future__ import annotations
 
 import os
-from collections.abc import Mapping, Sequence
+from collections.abc import Iterable, Mapping, Sequence
 from pathlib import Path
 from types import TracebackType
 from typing import Any, overload
@@ -11,11 +11,13 @@ from . import _library
 from ._collection import Collection, bin_of, box_of, heuristic_number, items_of
 from ._errors import NotASession
 from ._files import write_whole
-from ._fitting import LEFT_NUMBER, Rows, packed, parted
 from ._handle import alone
-from ._placing import OUTSTANDING, Placing
+from ._packing import PackingAll
 from ._saving import Saved, SavedBin, SavedPlacement, as_c, saved_of, what_is_wrong
-from ._types import AnyHeuristic, Bin, BinName, Box, BoxName, Groups, Left, Outstanding, Packing, Pairs, Section
+from ._searching import wanted_of
+from ._types import (
+    AnyHeuristic, AnyStep, Asked, Bin, BinName, Box, BoxName, Groups, Outstanding, Packing, Pairs, Section, Turning,
+)
 
 
 def _the_one(boxes: Mapping[Any, Box] | Sequence[Box]) -> tuple[Any, Box] | None:
@@ -27,7 +29,7 @@ def _the_one(boxes: Mapping[Any, Box] | Sequence[Box]) -> tuple[Any, Box] | None
     return (name, box) if box.group is None else None
 
 
-class Session(Placing[BinName]):
+class Session(PackingAll[BinName]):
     """Bins that stay, and boxes that are packed into them and released by number.
 
     >>> from rectangle_pack import Bin, Box, Session
@@ -62,7 +64,10 @@ class Session(Placing[BinName]):
         Raises OutOfMemory."""
         super().__init__()
         for name, size in items_of(bins):
-            self.add_bin(name, *bin_of(name, size))
+            width, height, depth, count, cost = bin_of(name, size)
+            if count != 1:
+                raise ValueError(f"bin {name!r}: count {count}: a session has one bin of each name")
+            self.add_bin(name, width, height, depth, cost=cost)
 
     def __enter__(self) -> Session[BinName]:
         self._check_open()
@@ -84,11 +89,12 @@ class Session(Placing[BinName]):
         bins = []
         for id in homes:
             name = self._names[id]
-            bins.append(SavedBin(name, Bin(*self._sides[id]), self.was_coalesced(name), self.free_sections(name)))
+            size = Bin(*self._sides[id])._replace(cost=self._costs.get(id, 1))
+            bins.append(SavedBin(name, size, self.was_coalesced(name), self.free_sections(name)))
         placements = []
         for number, _, id, *section in self._read("outstanding", _library.RpStanding):
-            box, group, _ = self._boxes[number]
-            placements.append(SavedPlacement(number, box, group, homes[id], Section(*section)))
+            box, group, _, turned = self._boxes[number]
+            placements.append(SavedPlacement(number, box, group, homes[id], Section(*section), turned))
         write_whole(Path(path), Saved(bins, placements, self.next_number()).text().encode())
 
     @classmethod
@@ -115,29 +121,29 @@ class Session(Placing[BinName]):
             raise what_is_wrong(saved, wrong)
         _library.check(status)
         for id, bin in enumerate(saved.bins):
-            session._ids[bin.name], session._names[id], session._sides[id] = id, bin.name, list(bin.size)
+            session._keep_bin(bin.name, id, bin.size[:3], bin.size.cost)
         session._next_id = len(saved.bins)
-        session._boxes = {it.number: (it.name, it.group, it.bin) for it in saved.placements}
+        session._boxes = {it.number: (it.name, it.group, it.bin, it.turned) for it in saved.placements}
         return session
 
     @overload
     def pack(
         self, boxes: Mapping[BoxName, Box], *,
-        groups: Groups[BoxName] | None = ..., exclude: Pairs = ..., heuristic: AnyHeuristic = ...,
-        partial: bool = ...,
+        groups: Groups[BoxName] | None = ..., exclude: Pairs = ..., heuristic: AnyHeuristic | None = ...,
+        partial: bool = ..., tries: int = ..., seed: int = ..., turn: Turning[BoxName] | None = ..., progress: Asked | None = ...,
     ) -> Packing[BoxName, Outstanding[BoxName, BinName]]: ...
 
     @overload
     def pack(
         self, boxes: Sequence[Box], *,
-        groups: Groups[int] | None = ..., exclude: Pairs = ..., heuristic: AnyHeuristic = ...,
-        partial: bool = ...,
+        groups: Groups[int] | None = ..., exclude: Pairs = ..., heuristic: AnyHeuristic | None = ...,
+        partial: bool = ..., tries: int = ..., seed: int = ..., turn: Turning[int] | None = ..., progress: Asked | None = ...,
     ) -> Packing[int, Outstanding[int, BinName]]: ...
 
     def pack(
         self, boxes: Mapping[Any, Box] | Sequence[Box], *,
-        groups: Groups[Any] | None = None, exclude: Pairs = (), heuristic: AnyHeuristic = "volume",
-        partial: bool = False,
+        groups: Groups[Any] | None = None, exclude: Pairs = (), heuristic: AnyHeuristic | None = None,
+        partial: bool = False, tries: int = 0, seed: int = 0, turn: Turning[Any] | None = None, progress: Asked | None = None,
     ) -> Packing[Any, Outstanding[Any, BinName]]:
         """Packs all boxes into what is free in the bins, as the function pack does. What stood there before excludes nothing,
         and "best" does not count it.
@@ -155,26 +161,43 @@ class Session(Placing[BinName]):
         ...     [it.name for it in session.outstanding()], packing.left
         (['strip'], (Left(name='shelf', group=None),))
 
+        With tries, or turn, a packing is searched for; other threads wait until it is packed. packing.least and packing.optimal do
+        not count what stood there before. Where Ctrl-C is pressed while what was found is packed, it is outstanding.
+
         Raises NotEnoughBinSpace, which never comes with partial, OutOfMemory, TooMany or NumbersUsedUp; and before anything is
         packed UnknownHeuristic, UnknownBox, UnknownGroup or EqualGroups, which are ValueErrors."""
-        asked = heuristic_number(heuristic)
+        if tries or turn is not None:
+            wanted = wanted_of(heuristic, tries, seed, turn, partial, progress)
+            return self._pack_searched(Collection(boxes, groups or {}, exclude), wanted)
+        asked = heuristic_number("volume" if heuristic is None else heuristic)
         one = None if groups or exclude or partial else _the_one(boxes)
         if one is not None:
             return self._pack_one(*one, asked)
         return self._pack_all(Collection(boxes, groups or {}, exclude), asked, partial)
 
-    def _pack_all(self, collection: Collection[Any], asked: int, partial: bool) -> Packing[Any, Outstanding[Any, BinName]]:
-        entries = collection.entries()
-        room, first = _library.room_of(_library.RpOutstanding, len(entries))
-        told, placed = collection.as_c(), []
-        left: tuple[Left, ...] = ()
-        with self._lock:
-            self._check_open()
-            chosen = packed("session_pack_", partial, self._handle, told, asked, first, len(entries))
-            rows: Rows = zip(entries, OUTSTANDING.iter_unpack(room))
-            if partial:
-                rows, left = parted(rows, LEFT_NUMBER)
-            for (name, group, size), (number, id, x, y, z) in rows:
-                self._boxes[number] = (name, group, id)
-                placed.append(Outstanding(name, group, self._names[id], x, y, z, *size, number))
-        return Packing(chosen, tuple(placed), left)
+    @overload
+    def pack_told(
+        self, boxes: Mapping[BoxName, Box], steps: Iterable[AnyStep], *,
+        groups: Groups[BoxName] | None = ..., exclude: Pairs = ...,
+    ) -> Packing[BoxName, Outstanding[BoxName, BinName]]: ...
+
+    @overload
+    def pack_told(
+        self, boxes: Sequence[Box], steps: Iterable[AnyStep], *,
+        groups: Groups[int] | None = ..., exclude: Pairs = ...,
+    ) -> Packing[int, Outstanding[int, BinName]]: ...
+
+    def pack_told(
+        self, boxes: Mapping[Any, Box] | Sequence[Box], steps: Iterable[AnyStep], *,
+        groups: Groups[Any] | None = None, exclude: Pairs = (),
+    ) -> Packing[Any, Outstanding[Any, BinName]]:
+        """Packs into what is free in the bins as it is told, as the function pack_told does. What stood there before excludes
+        nothing.
+
+        >>> with Session({"page": Bin(4, 4), "next": Bin(4, 4)}) as session:
+        ...     packing = session.pack_told({"hat": Box(4, 3), "cap": Box(4, 2)}, [("cap", "next")])
+        ...     [(it.name, it.bin, it.number) for it in packing], packing.left
+        ([('cap', 'next', 0)], (Left(name='hat', group=None),))
+
+        Raises StepRefused, OutOfMemory, TooMany or NumbersUsedUp; and before anything is packed what pack_told raises."""
+        return self._pack_told(Collection(boxes, groups or {}, exclude), steps)

@@ -15,7 +15,7 @@ BOXES = {"hat": Box(4, 3, group="hats"), "cap": Box(5, 1), "pin": Box(1, 1)}
 
 WRONG = [
     (UnknownHeuristic, {"heuristic": "weight"}),
-    (UnknownHeuristic, {"heuristic": None}),
+    (UnknownHeuristic, {"heuristic": []}),
     (UnknownBox, {"groups": {"hats": ["scarf"]}}),
     (UnknownGroup, {"exclude": [("hats", "shoes")]}),
     (EqualGroups, {"exclude": [("hats", "hats")]}),

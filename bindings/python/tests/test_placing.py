@@ -70,7 +70,7 @@ class PlacingBest(unittest.TestCase):
             for bad, error in ((-1, ValueError), (2**32, ValueError), (1.0, TypeError), (True, TypeError)):
                 for size in ((bad, 1), (1, bad), (1, 1, bad)):
                     self.assertRaises(error, session.place_best, "cap", *size)
-            self.assertEqual((seen_of(session), session._boxes), (before, {0: (0, None, 0)}))
+            self.assertEqual((seen_of(session), session._boxes), (before, {0: (0, None, 0, False)}))
 
     def test_names_of_bins_and_boxes(self):
         with Session({name: Bin(2, 1) for name in NAMES}) as session:

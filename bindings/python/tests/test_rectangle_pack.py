@@ -280,7 +280,7 @@ class Errors(unittest.TestCase):
         wrong = [
             (UnknownHeuristic, {"heuristic": "weight"}, "There is no such heuristic: 'weight'"),
             (UnknownHeuristic, {"heuristic": "Volume"}, "There is no such heuristic: 'Volume'"),
-            (UnknownHeuristic, {"heuristic": None}, "There is no such heuristic: None"),
+            (UnknownHeuristic, {"heuristic": 0}, "There is no such heuristic: 0"),
             (UnknownBox, {"groups": {"hats": ["hat", "cap"]}}, "There is no such box: 'cap', of group 'hats'"),
             (UnknownBox, {"groups": {"hats": [0]}}, "There is no such box: 0, of group 'hats'"),
             (EqualGroups, {"exclude": [("hats", "hats")]}, "A group is excluded with itself: 'hats'"),
@@ -305,7 +305,7 @@ def leave_room(test):
 
 def load_tests(loader, tests, pattern):
     public = {name: getattr(rectangle_pack, name) for name in rectangle_pack.__all__}
-    for name in ("", "._pack", "._session", "._bins", "._reading", "._placing"):
+    for name in ("", "._pack", "._telling", "._bounding", "._session", "._bins", "._reading", "._placing"):
         module = importlib.import_module(f"rectangle_pack{name}")
         tests.addTests(doctest.DocTestSuite(module, extraglobs=public, setUp=enter_room, tearDown=leave_room))
     return tests

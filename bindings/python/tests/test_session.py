@@ -219,12 +219,12 @@ class Names(unittest.TestCase):
     def test_they_are_forgotten_when_a_box_goes(self):
         with Session([Bin(10, 10)]) as session:
             packing = session.pack({"hat": Box(1, 1), "cap": Box(2, 2)}, groups={"hats": ["hat", "cap"]})
-            self.assertEqual(session._boxes, {0: ("hat", "hats", 0), 1: ("cap", "hats", 0)})
+            self.assertEqual(session._boxes, {0: ("hat", "hats", 0, False), 1: ("cap", "hats", 0, False)})
             session.release(packing["hat"].number)
-            self.assertEqual(session._boxes, {1: ("cap", "hats", 0)})
+            self.assertEqual(session._boxes, {1: ("cap", "hats", 0, False)})
             with self.assertRaises(NotEnoughBinSpace):
                 session.pack({"house": Box(20, 20)})
-            self.assertEqual(session._boxes, {1: ("cap", "hats", 0)})
+            self.assertEqual(session._boxes, {1: ("cap", "hats", 0, False)})
 
 
 class Reading(unittest.TestCase):
@@ -258,8 +258,12 @@ class Reading(unittest.TestCase):
             first, second = Outstanding("c", None, 7, 0, 0, 0, 5, 10, 1, 0), Outstanding("b", None, 7, 5, 0, 0, 4, 10, 1, 1)
             third, fourth = Outstanding("a", None, 3, 0, 0, 0, 1, 1, 2, 2), Outstanding(0, None, 7, 9, 0, 0, 1, 10, 1, 3)
             self.assertEqual(session.outstanding(), [first, second, third, fourth])
+            self.assertEqual([session.outstanding_in(bin) for bin in (7, 3)], [[first, second, fourth], [third]])
             session.release(1)
             self.assertEqual(session.outstanding(), [first, third, fourth])
+            self.assertEqual([session.outstanding_in(bin) for bin in (7, 3)], [[first, fourth], [third]])
+            session.clear_bin(7)
+            self.assertEqual([session.outstanding_in(bin) for bin in (7, 3)], [[], [third]])
 
     def test_the_next_number(self):
         with Session([Bin(10, 10)]) as session:
@@ -305,6 +309,7 @@ class Reading(unittest.TestCase):
                 for bin in (8, 7):
                     stats = session.stats(bin)
                     self.assertEqual(len(session.free_sections(bin)), stats.free_sections)
+                    self.assertEqual(len(session.outstanding_in(bin)), stats.placements)
                     self.assertEqual(session.cut_plan(bin).count(Leaf()), max(1, stats.free_sections + stats.placements))
 
 
@@ -338,7 +343,8 @@ class Refusals(unittest.TestCase):
         """All that is asked of a bin that is there."""
         return [
             lambda: session.coalesce_all(bin), lambda: session.coalesce(bin, 0, 0, 1), lambda: session.was_coalesced(bin),
-            lambda: session.free_sections(bin), lambda: session.cut_plan(bin), lambda: session.cut_tree(bin),
+            lambda: session.free_sections(bin), lambda: session.outstanding_in(bin),
+            lambda: session.cut_plan(bin), lambda: session.cut_tree(bin),
             lambda: session.stats(bin), lambda: session.clear_bin(bin), lambda: session.remove_bin(bin),
             lambda: session.grow_bin(bin, "x", 1), lambda: session.place_at(bin, "cap", Section(0, 0, 0, 1, 1, 1)),
             lambda: session.place_best("cap", 1, 1, bin=bin), lambda: session.recut(bin),
@@ -394,6 +400,7 @@ class Closing(unittest.TestCase):
     def check_closed(self, session):
         calls = [
             lambda: session.add_bin(1, 1, 1), lambda: session.pack([]), lambda: session.release(0), session.__enter__,
+            lambda: session.pack([], tries=1), lambda: session.pack([], turn="flat"), lambda: session.pack_told([], []),
             session.bins, session.outstanding, session.next_number, lambda: session.release_all([]),
             lambda: session.place_best("cap", 1, 1), *Refusals.calls_of(self, session, 7),
         ]

@@ -101,7 +101,7 @@ class Refusals(unittest.TestCase):
         for bad, error in wrong:
             for field in Section._fields:
                 self.assertRaises(error, straight_cuts, Bin(9, 9), [at(0, 0, 1, 1)._replace(**{field: bad})])
-            for field in Bin._fields:
+            for field in ("width", "height", "depth"):
                 self.assertRaises(error, straight_cuts, Bin(9, 9)._replace(**{field: bad}), [])
         self.assertRaises(TypeError, straight_cuts, Bin(9, 9), [(0, 0, 1, 1)])
 
@@ -112,7 +112,7 @@ class Refusals(unittest.TestCase):
 
 def check_plan(test, bin, boxes, plan):
     """Each box with cells is a leaf, once. The other leaves share no cell with a box; so all cells of the bin are in a leaf."""
-    whole = Section(0, 0, 0, *bin)
+    whole = Section(0, 0, 0, *bin[:3])
     leaves = checked_leaves(tree_of(plan, whole), whole)
     with_cells = [it for it in boxes if volume(it)]
     free = Counter(leaves) - Counter(with_cells)
@@ -147,8 +147,8 @@ def pinwheel_in(r, part):
 class Drawn(unittest.TestCase):
     def drawn_boxes(self, r, bin):
         """Boxes that drawn cuts leave, some of which are left out; and one without cells."""
-        parts = drawn_parts(r, Section(0, 0, 0, *bin), r.randint(0, 6))
-        empty = Section(*(r.randint(0, side) for side in bin), 0, 0, 0)
+        parts = drawn_parts(r, Section(0, 0, 0, *bin[:3]), r.randint(0, 6))
+        empty = Section(*(r.randint(0, side) for side in bin[:3]), 0, 0, 0)
         return [*(it for it in parts if r.random() < 0.7), empty]
 
     def test_boxes_from_cuts_have_a_plan(self):
@@ -164,7 +164,7 @@ class Drawn(unittest.TestCase):
         r, pinwheels = random.Random(6), 0
         while pinwheels < DRAWS // 3:
             bin = Bin(r.randint(3, 12), r.randint(3, 12), r.randint(1, 3))
-            parts = drawn_parts(r, Section(0, 0, 0, *bin), r.randint(0, 4))
+            parts = drawn_parts(r, Section(0, 0, 0, *bin[:3]), r.randint(0, 4))
             home = next((it for it in parts if it.width > 2 and it.height > 2), None)
             if home is None:
                 continue
@@ -189,7 +189,7 @@ class Drawn(unittest.TestCase):
         for number in range(DRAWS):
             bin = Bin(r.randint(1, 12), r.randint(1, 12), r.randint(1, 3))
             boxes = self.drawn_boxes(r, bin)
-            more = Section(*(r.randrange(side) for side in bin), *(r.randint(1, 2) for _ in bin))
+            more = Section(*(r.randrange(side) for side in bin[:3]), *(r.randint(1, 2) for _ in bin[:3]))
             boxes.insert(r.randint(0, len(boxes)), more)
             wrong = self.first_wrong(bin, boxes)
             try:
@@ -209,7 +209,7 @@ class Drawn(unittest.TestCase):
             with Session([bin]) as session:
                 for _ in range(r.randint(0, 40)):
                     try:
-                        session.place_best("box", *(r.randint(1, min(side, 5)) for side in bin))
+                        session.place_best("box", *(r.randint(1, min(side, 5)) for side in bin[:3]))
                     except NotEnoughBinSpace:
                         continue
                 session.release_all(it.number for it in session.outstanding() if r.random() < 0.3)

@@ -50,9 +50,9 @@ class Clearing(unittest.TestCase):
     def test_names_of_its_boxes_are_forgotten(self):
         with Session([Bin(2, 2), Bin(3, 3)]) as session:
             session.pack({"hat": Box(2, 2), "cap": Box(3, 3)}, groups={"hats": ["hat"]})
-            self.assertEqual(session._boxes, {0: ("cap", None, 1), 1: ("hat", "hats", 0)})
+            self.assertEqual(session._boxes, {0: ("cap", None, 1, False), 1: ("hat", "hats", 0, False)})
             session.clear_bin(0)
-            self.assertEqual(session._boxes, {0: ("cap", None, 1)})
+            self.assertEqual(session._boxes, {0: ("cap", None, 1, False)})
             session.clear_bin(1)
             self.assertEqual(session._boxes, {})
 
@@ -245,7 +245,7 @@ class Placing(unittest.TestCase):
                 with self.assertRaises(NotFree) as refused:
                     session.place_at("board", "hat", Section(*place))
                 self.assertEqual(str(refused.exception), f"No free section holds the box there: {Section(*place)}")
-                self.assertEqual((seen_of(session), session._boxes), (before, {0: ("knot", None, 0)}))
+                self.assertEqual((seen_of(session), session._boxes), (before, {0: ("knot", None, 0, False)}))
             session.release(0)
             session.clear_bin("board")
             self.assertEqual(session.place_at("board", "hat", Section(0, 0, 0, 10, 3, 1)).number, 1)
@@ -282,7 +282,7 @@ class Placing(unittest.TestCase):
             for number in range(2):
                 session.place_at("board", "knot", Section(number, 0, 0, 1, 1, 1))
             session.release(0)
-            self.assertEqual(session._boxes, {1: ("knot", None, 0)})
+            self.assertEqual(session._boxes, {1: ("knot", None, 0, False)})
             session.clear_bin("board")
             self.assertEqual(session._boxes, {})
 

@@ -1,9 +1,11 @@
 """Uses of the module for a type checker, which test_types.py runs. Each line that is marked is wrong, and has to be found."""
 from __future__ import annotations
 
+from typing import Optional
+
 from rectangle_pack import (
-    AnyHeuristic, Bin, Box, CutNode, CutStep, Fault, FaultKind, Heuristic, Left, Outstanding, Packing, Placement, Section,
-    Session, Turn, WrongBoxes, check, pack, straight_cuts,
+    AnyHeuristic, Bin, Box, CutNode, CutStep, Fault, FaultKind, Heuristic, Left, Outstanding, Packing, Placement, Progress, Refusal,
+    Section, Session, Step, StepRefused, Turn, WrongBoxes, check, least_bins, pack, pack_told, straight_cuts,
 )
 
 sheets = {"small": Bin(64, 64), "large": Bin(128, 128)}
@@ -11,8 +13,8 @@ sprites = {("hat", 1): Box(10, 20, group="hats"), ("tree", 1): Box(60, 60, group
 groups = {"hats": [("tree", 1)]}
 
 packing: Packing[tuple[str, int], Placement[tuple[str, int], str]] = pack(sheets, sprites, groups=groups, exclude=[("hats", 3)])
-heuristic: Heuristic = packing.heuristic
-asked: AnyHeuristic = heuristic
+heuristic: Optional[Heuristic] = packing.heuristic
+asked: AnyHeuristic = heuristic or "best"
 hat: tuple[str, int] = packing["hat", 1].name
 sheet: str = packing["hat", 1].bin
 corners: list[int] = [it.x for it in packing]
@@ -26,6 +28,41 @@ left_names: list[str] = [f"{it.name} of {it.group}" for it in pack([Bin(1, 1)], 
 fitting: list[int] = [it.bin for it in pack([Bin(1, 1)], [Box(1, 1)], partial=True)]
 fits_in: list[str] = [it.bin for it in pack(sheets, [Box(1, 1)], partial=True)]
 
+pages = {"page": Bin(64, 64, count=None, cost=3), "more": Bin(64, 64, 1, 5)}
+
+
+def is_to_go_on(it: Progress) -> bool:
+    return it.tries + it.bins + it.cost + it.left_cells < 9
+
+
+found: Packing[tuple[str, int], Placement[tuple[str, int], str]] = pack(pages, sprites, tries=9, seed=1, turn={("hat", 1): "flat"})
+copies: list[int] = [it.copy for it in found]
+are_turned: list[bool] = [it.turned for it in pack([Bin(1, 1)], [Box(1, 1)], tries=9, turn=["flat"], progress=is_to_go_on)]
+pack(sheets, sprites, tries=9, turn="any", heuristic="best", progress=lambda it: None, partial=True)
+pack(sheets, sprites, heuristic=found.heuristic)
+is_optimal, least, used = found.optimal, found.least, found.used
+needed: Optional[int] = least_bins(pages, sprites, groups=groups, exclude=[("hats", 3)], turn={("hat", 1): "flat"})
+fewest: Optional[int] = least_bins([Bin(1, 1)], [Box(1, 1)]) if is_optimal and least == used else needed
+try:
+    plan: Packing[tuple[str, int], Placement[tuple[str, int], str]] = pack_told(
+        sheets, sprites, [("hats", "large"), (3, "small", "height"), Step(3, "small", copy=2)], groups=groups)
+    by_indices: Placement[int, int] = pack_told([Bin(1, 1)], [Box(1, 1)], [(0, 0)])[0]
+except StepRefused as error:
+    reason: Refusal = error.reason
+    place: int = error.index
+    refused_bin = error.step.bin
+
+pack(sheets, sprites, tries="9")  # type: ignore
+pack(sheets, sprites, turn="about")  # type: ignore
+pack(sheets, sprites, turn={"hat": "flat"})  # type: ignore
+pack(sheets, sprites, progress=is_optimal)  # type: ignore
+pack(sheets, sprites, progress=lambda it: it.time)  # type: ignore
+Bin(64, 64, count="all")  # type: ignore
+found.optimal = True  # type: ignore
+least_bins(sheets, sprites, turn=4)  # type: ignore
+pack_told(sheets, sprites)  # type: ignore
+pack_told(sheets, sprites, [("hats", "large", "best")])  # type: ignore
+pack_told(sheets, sprites, ["hats"])  # type: ignore
 pack(sheets, sprites, heuristic="weight")  # type: ignore
 pack(sheets, sprites, groups={"hats": 3})  # type: ignore
 pack(sheets, sprites, exclude=["hats", 3])  # type: ignore
@@ -77,6 +114,12 @@ with Session(sheets) as session:
     numbers: list[int] = [it.number for it in session.pack([Box(1, 1)], partial=True)]
     session.pack({name: sprites[name] for name, _ in fitted.left})
     session.release(standing.number)
+    searched: Packing[tuple[str, int], Outstanding[tuple[str, int], str]] = session.pack(sprites, tries=9, turn="flat", seed=3)
+    searched_for: Packing[int, Outstanding[int, str]] = session.pack([Box(1, 1)], turn=["flat"], progress=is_to_go_on)
+    told: Outstanding[tuple[str, int], str] = session.pack_told(sprites, [("hats", "small")], groups=groups)["hat", 1]
+    told_numbers: list[int] = [it.number for it in session.pack_told([Box(1, 1)], [(0, "small")])]
+    standing_here: list[str] = [it.bin for it in session.outstanding_in("small")]
+    session.add_bin("dear", 1, 1, cost=5)
     names: list[str] = session.bins()
     standing_in: list[tuple[str, Section]] = [(it.bin, it.section) for it in session.outstanding()]
     tree = session.cut_tree("small")
@@ -92,6 +135,11 @@ with Session(sheets) as session:
     session.clear_bin("small")
     session.remove_bin("small")
 
+    session.pack(sprites, turn=["flat"], tries="many")  # type: ignore
+    session.pack(sprites, progress=3)  # type: ignore
+    session.pack_told(sprites, [("hats",)])  # type: ignore
+    session.outstanding_in(7)  # type: ignore
+    session.add_bin("dear", 1, 1, cost="5")  # type: ignore
     session.stats(7)  # type: ignore
     session.add_bin(7, 1, 1)  # type: ignore
     session.pack(sprites, heuristic="weight")  # type: ignore

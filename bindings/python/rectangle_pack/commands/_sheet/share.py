@@ -46,9 +46,11 @@ def _groups(boxes: Boxes) -> dict[object, dict[int, Box]]:
 def _pages(*packings: Packing[int, Any]) -> list[Page]:
     """The pages of packings into the same bins, by one heuristic."""
     pages: dict[int, dict[int, Size]] = {}
+    heuristic = packings[0].heuristic
+    assert heuristic
     for it in (it for packing in packings for it in packing):
         pages.setdefault(it.bin, {})[it.name] = (it.x, it.y)
-    return [Page(packings[0].heuristic, pages[number]) for number in sorted(pages)]
+    return [Page(heuristic, pages[number]) for number in sorted(pages)]
 
 
 class _Sharing:

@@ -54,6 +54,7 @@ class _Search:
             packing = pack([bin], self._boxes, heuristic=self._heuristic)
         except NotEnoughBinSpace:
             return False
+        assert packing.heuristic
         found = self._cut_off(Page(packing.heuristic, {it.name: (it.x, it.y) for it in packing}))
         if _rank(found.size) < _rank(self.best.size):
             self.best = found
