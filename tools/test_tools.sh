@@ -1,5 +1,5 @@
 #!/usr/bin/env bash
-# test_tools.sh: tests the commands sheet, cut, load, view and check as their users call them, and the pages of view in a
+# test_tools.sh: tests the commands sheet, cut, load, view, check and pack as their users call them, and the pages of view in a
 # headless Chromium, by mouse, by touch and by keys. They need the shared library, which RECTANGLE_PACK names or which is in
 # build/; where it is in neither, it is proved and built first. What this machine lacks is skipped, which is said.
 # test_tools.sh quick: without the browser, and builds nothing.
@@ -37,7 +37,7 @@ run_tests() {
 }
 
 tests=bindings/python/tests/commands
-for it in sheet cut load view check; do
+for it in sheet cut load view check pack; do
     # One by one, so that what is skipped is told with the command that it tests.
     if compgen -G "$tests/test_$it*.py" >/dev/null; then
         run_tests "$it" "test_$it*.py" "$tests"

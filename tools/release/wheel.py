@@ -6,8 +6,8 @@ import shutil
 
 from common import DIST, PACKAGING, TOP, WORK, Release, at_commit, copied, emptied, glibc_of, run
 
-# What the package is made of: the page of `view` has files of its own.
-SOURCES = (".py", ".typed", ".html", ".css", ".js")
+# What the package is made of: the page of `view` and the schemas of `pack` are files of their own.
+SOURCES = (".py", ".typed", ".html", ".css", ".js", ".json")
 # The oldest glibc that has a tag.
 OLDEST = (2, 5)
 

@@ -1,4 +1,4 @@
-"""The commands, as `python3 -m rectangle_pack sheet|cut|load|view|check`."""
+"""The commands, as `python3 -m rectangle_pack sheet|cut|load|view|check|pack`."""
 import sys
 
 from .commands import main

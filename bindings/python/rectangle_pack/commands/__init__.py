@@ -1,7 +1,7 @@
-"""Commands over the module: a sprite sheet, a cutting list, a loaded container, a page to look at each of them, and a judge of
-packings.
+"""Commands over the module: a sprite sheet, a cutting list, a loaded container, a page to look at each of them, a judge of
+packings, and packings for programs in any language.
 
-    python3 -m rectangle_pack sheet|cut|load|view|check --help"""
+    python3 -m rectangle_pack sheet|cut|load|view|check|pack --help"""
 from __future__ import annotations
 
 import argparse
@@ -10,7 +10,7 @@ import sys
 from collections.abc import Sequence
 
 from .. import OutOfMemory
-from . import check, cut, load, sheet, view
+from . import check, cut, load, pack, sheet, view
 from ._common import DONE, STOPPED, WRONG_INPUT, NoRoom, Wrong
 
 __all__ = ["main"]
@@ -23,11 +23,11 @@ EPILOG = (
 def parser() -> argparse.ArgumentParser:
     whole = argparse.ArgumentParser(
         prog="python3 -m rectangle_pack", epilog=EPILOG,
-        description="Packs sprites onto pages, panels onto sheets and crates into containers, and judges packings of anyone, "
-        "by the proved library.",
+        description="Packs sprites onto pages, panels onto sheets, crates into containers, and what a job in JSON says, and "
+        "judges packings of anyone, by the proved library.",
     )
     commands = whole.add_subparsers(title="commands", metavar="COMMAND", required=True)
-    for module in (sheet, cut, load, view, check):
+    for module in (sheet, cut, load, view, check, pack):
         module.add_to(commands)
     return whole
 

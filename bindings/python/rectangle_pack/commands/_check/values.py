@@ -1,13 +1,13 @@
 """Values of JSON files. Each knows where it stands, so that it can be said what is wrong with it."""
 from __future__ import annotations
 
-import json
-from collections.abc import Iterator, Sequence
-from decimal import Decimal, InvalidOperation
+from collections.abc import Iterator
+from decimal import Decimal
 from pathlib import Path
 from typing import Any
 
 from .._common import Wrong
+from .._json import json_of
 from .layout import why_not
 from .texts import quoted, shown
 
@@ -101,35 +101,6 @@ class Value:
         return items
 
 
-def _number(text: str) -> Decimal:
-    try:
-        return Decimal(text)
-    except InvalidOperation:
-        # Its exponent has more digits than any number that is taken.
-        return Decimal("inf")
-
-
-def _no_number(text: str) -> Decimal:
-    raise ValueError(f"{text} is no number")
-
-
-def _object(pairs: Sequence[tuple[str, Any]]) -> dict[str, Any]:
-    members: dict[str, Any] = {}
-    for name, value in pairs:
-        if name in members:
-            raise ValueError(f"an object has the key {quoted(name)} twice")
-        members[name] = value
-    return members
-
-
 def value_of(path: Path, text: str) -> Value:
     """What the text of a JSON file says."""
-    try:
-        return Value(path, json.loads(
-            text, object_pairs_hook=_object, parse_int=_number, parse_float=_number, parse_constant=_no_number))
-    except json.JSONDecodeError as why:
-        raise Wrong(f"is no JSON: {why.msg}", path, why.lineno) from None
-    except ValueError as why:
-        raise Wrong(f"is no JSON: {why}", path) from None
-    except RecursionError:
-        raise Wrong("is nested too deeply", path) from None
+    return Value(path, json_of(path, text))

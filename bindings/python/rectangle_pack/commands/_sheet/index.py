@@ -1,12 +1,12 @@
 """What says where each sprite is: the JSON of TexturePacker, as PixiJS and Phaser 3 load it, and the .atlas of libGDX."""
 from __future__ import annotations
 
-import json
 from collections.abc import Callable, Mapping, Sequence
 from pathlib import Path
 from typing import Any
 
 from .._common import Wrong
+from .._json import lines_of
 from .numbered import Animation, Naming, animations_of, numbered
 from .rules import Size
 from .sheets import Frame, Sheet
@@ -34,16 +34,6 @@ def _frame(frame: Frame) -> dict[str, Any]:
     }
 
 
-def _json(value: Any, depth: int) -> str:
-    """JSON in which lists and objects have a line for each part, down to this depth: so each sprite has its line."""
-    if depth == 0 or not isinstance(value, (dict, list)):
-        return json.dumps(value, ensure_ascii=False)
-    if isinstance(value, dict):
-        parts = [f"{_json(name, 0)}: {_json(part, depth - 1)}" for name, part in value.items()]
-        return "{\n" + ",\n".join(parts) + "\n}"
-    return "[\n" + ",\n".join(_json(part, depth - 1) for part in value) + "\n]"
-
-
 def _animations(found: Sequence[Animation], page: int) -> dict[str, Any]:
     """The animations of a page. PixiJS looks for their frames on that page alone, so each is whole there, or left out."""
     whole = {it.name: list(it.frames) for it in found if it.pages == [page]}
@@ -64,7 +54,7 @@ def _json_hash(name: str, sheets: Sequence[Sheet], naming: Naming) -> dict[str, 
         if others:
             meta["related_multi_packs"] = others
         frames = {it.sprite.name: _frame(it) for it in sheet.frames}
-        texts[file] = _json({"frames": frames, **_animations(found, page), "meta": meta}, 2) + "\n"
+        texts[file] = lines_of({"frames": frames, **_animations(found, page), "meta": meta}, 2) + "\n"
     return texts
 
 
@@ -76,7 +66,7 @@ def _phaser_multi(name: str, sheets: Sequence[Sheet], naming: Naming) -> dict[st
         "frames": [{"filename": it.sprite.name, **_frame(it)} for it in sheet.frames],
     } for sheet in sheets]
     index = {"textures": textures, "meta": {"app": "rectangle_pack", "version": "3.0"}}
-    return {f"{name}.phaser.json": _json(index, 4) + "\n"}
+    return {f"{name}.phaser.json": lines_of(index, 4) + "\n"}
 
 
 def _region(frame: Frame, naming: Naming) -> list[str]:
