@@ -5,15 +5,16 @@ import argparse
 from collections.abc import Sequence
 from dataclasses import dataclass
 from pathlib import Path
+from typing import Any
 
 from ._common import DONE, progress, refuse_over, write
 from ._sheet.files import find, refuse_output_in
 from ._sheet.index import FORMATS, refuse_name
 from ._sheet.numbered import Animation, animations_of, refuse_equal_indices
 from ._sheet.options import Options, add_words, options_of
-from ._sheet.pictures import check_pillow, drawn_page
+from ._sheet.pictures import check_pillow, drawn_page, turned
 from ._sheet.report import print_lines, print_sheets, scene_of
-from ._sheet.sheets import Sheet, at_scale, sheets_of
+from ._sheet.sheets import Placed, Sheet, at_scale, sheets_of
 from ._sheet.sprites import Stored, read_sprites
 
 __all__ = ["add_to"]
@@ -66,9 +67,12 @@ def _read(options: Options) -> list[Stored]:
 
 def _drawn(options: Options, sheets: Sequence[Sheet]) -> list[bytes]:
     """The PNG file of each page."""
+    def picture_of(it: Placed) -> Any:
+        return turned(it.stored.picture, options.is_clockwise) if it.is_turned else it.stored.picture
+
     return [
         drawn_page(
-            sheet.size, [(it.picture, corner) for it, corner in sheet.stored], sheet.scale.of(options.rules.extrude))
+            sheet.size, [(picture_of(it), it.corner) for it in sheet.stored], sheet.scale.of(options.rules.extrude))
         for sheet in progress(sheets, len(sheets), "drawing")]
 
 

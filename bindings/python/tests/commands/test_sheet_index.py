@@ -106,6 +106,7 @@ class Formats(SheetCase):
             regions = [(number, it) for number, page in enumerate(pages) for it in page["regions"]]
             self.assertEqual(sorted(it["name"] for _, it in regions), sorted(PICTURES))
             for number, it in regions:
+                self.assertEqual(it["rotate"], "false")
                 self.assertEqual(whole_picture(read[number], it), PICTURES[it["name"]], it["name"])
 
     def test_libgdx_counts_from_the_lower_edge(self) -> None:
@@ -166,7 +167,7 @@ def pages_by_order(lines: list[str]) -> Iterator[dict[str, Any]]:
         else:
             region = {"name": line, "rotate": value(), "xy": numbers(value()), "size": numbers(value())}
             region.update(orig=numbers(value()), offset=numbers(value()), index=value())
-            assert (region["rotate"], region["index"]) == ("false", "-1")
+            assert region["rotate"] in ("true", "false") and region["index"] == "-1"
             page["regions"].append(region)
     yield page
 
@@ -225,7 +226,7 @@ class Said(SheetCase):
         frames = {
             it["name"]: Frame(
                 it["page"], it["x"], it["y"], it["width"], it["height"], it["source"]["x"], it["source"]["y"],
-                (it["source"]["width"], it["source"]["height"])) for it in said["sprites"]}
+                (it["source"]["width"], it["source"]["height"]), it["rotated"]) for it in said["sprites"]}
         self.assertEqual(frames, atlas.frames)
         for it in said["sprites"]:
             self.assertEqual((it["file"], it["stored_as"]), (str(self.source / f"{it['name']}.png"), it["name"]))

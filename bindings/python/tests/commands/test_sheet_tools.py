@@ -1,4 +1,4 @@
-"""What the tests of the command sheet share: PNG files of known pixels, runs of the command, and pages that are read back."""
+"""What the tests of the command sheet share: runs of the command, and pages that are read back."""
 from __future__ import annotations
 
 import contextlib
@@ -7,18 +7,17 @@ import importlib.util
 import io
 import json
 import os
-import random
 import shutil
-import struct
 import subprocess
 import sys
 import tempfile
 import unittest
-import zlib
-from collections.abc import Iterable, Mapping
+from collections.abc import Mapping
 from dataclasses import dataclass, field
 from pathlib import Path
 from typing import Any, Optional
+
+from .sheet_pictures import CLEAR, Picture, drawn, framed, full, noise, png
 
 PYTHON = Path(__file__).resolve().parents[2]
 
@@ -32,7 +31,10 @@ try:
 except ImportError:
     raise unittest.SkipTest("Pillow is not there") from None
 
-CLEAR = (0, 0, 0, 0)
+__all__ = [
+    "CLEAR", "Atlas", "Frame", "Picture", "Run", "SheetCase", "drawn", "example", "framed", "full", "noise", "png", "read_atlas",
+    "read_page", "run", "run_alone",
+]
 
 
 def example() -> Any:
@@ -42,72 +44,6 @@ def example() -> Any:
     module = importlib.util.module_from_spec(spec)
     spec.loader.exec_module(module)
     return module
-
-
-def png(width: int, height: int, depth: int, colour: int, rows: Iterable[bytes], **chunks: bytes) -> bytes:
-    """A PNG file of rows as they stand in it, with other chunks before these."""
-    def chunk(name: bytes, data: bytes) -> bytes:
-        return struct.pack(">I", len(data)) + name + data + struct.pack(">I", zlib.crc32(name + data))
-
-    return b"".join([
-        b"\x89PNG\r\n\x1a\n", chunk(b"IHDR", struct.pack(">IIBBBBB", width, height, depth, colour, 0, 0, 0)),
-        *(chunk(name.encode(), data) for name, data in chunks.items()),
-        chunk(b"IDAT", zlib.compress(b"".join(b"\0" + row for row in rows), 1)), chunk(b"IEND", b""),
-    ])
-
-
-@dataclass(frozen=True)
-class Picture:
-    """Pixels of four bytes: red, green, blue, alpha."""
-
-    width: int
-    height: int
-    data: bytes
-
-    def at(self, x: int, y: int) -> tuple[int, ...]:
-        start = 4 * (y * self.width + x)
-        return tuple(self.data[start:start + 4])
-
-    def row(self, y: int, left: int, right: int) -> bytes:
-        return self.data[4 * (y * self.width + left):4 * (y * self.width + right)]
-
-    def cut(self, x: int, y: int, width: int, height: int) -> bytes:
-        return b"".join(self.row(row, x, x + width) for row in range(y, y + height))
-
-    def as_png(self) -> bytes:
-        return png(self.width, self.height, 8, 6, (self.row(y, 0, self.width) for y in range(self.height)))
-
-
-def full(width: int, height: int, colour: tuple[int, int, int, int] = (9, 99, 199, 255)) -> Picture:
-    """A picture of one colour."""
-    return Picture(width, height, bytes(colour) * (width * height))
-
-
-def noise(r: random.Random, width: int, height: int) -> Picture:
-    """A picture of which each pixel is drawn and can be seen."""
-    data = bytearray(r.getrandbits(8) for _ in range(4 * width * height))
-    data[3::4] = bytes(1 + value % 255 for value in data[3::4])
-    return Picture(width, height, bytes(data))
-
-
-def framed(inner: Picture, left: int, top: int, right: int, bottom: int) -> Picture:
-    """A picture with a border that cannot be seen."""
-    width = left + inner.width + right
-    rows = [bytes(4 * left) + inner.row(y, 0, inner.width) + bytes(4 * right) for y in range(inner.height)]
-    empty = bytes(4 * width)
-    return Picture(width, top + inner.height + bottom, empty * top + b"".join(rows) + empty * bottom)
-
-
-def drawn(seed: int, count: int, least: int, most: int, folders: Iterable[str] = ("",)) -> dict[str, Picture]:
-    """Pictures by their names, each in one of the folders, of which some have a border that cannot be seen."""
-    r, places = random.Random(seed), [folder and f"{folder}/" for folder in folders]
-    pictures = {}
-    for number in range(count):
-        picture = noise(r, r.randint(least, most), r.randint(least, most))
-        if r.random() < 0.5:
-            picture = framed(picture, *(r.randint(0, 4) for _ in range(4)))
-        pictures[f"{r.choice(places)}{number}"] = picture
-    return pictures
 
 
 @dataclass(frozen=True)
@@ -138,7 +74,8 @@ def run_alone(*words: object, **environment: str) -> Run:
 
 @dataclass(frozen=True)
 class Frame:
-    """A sprite as an index has it: its place on its page, and where that was cut out of its file."""
+    """A sprite as an index has it: its place on its page, its size as it was before it was turned there, where that was cut out
+    of its file, and whether it was turned."""
 
     page: int
     x: int
@@ -148,6 +85,12 @@ class Frame:
     left: int
     top: int
     whole: tuple[int, int]
+    turned: bool = False
+
+    @property
+    def size(self) -> tuple[int, int]:
+        """The size on the page."""
+        return (self.height, self.width) if self.turned else (self.width, self.height)
 
 
 @dataclass(frozen=True)
@@ -177,7 +120,8 @@ def read_atlas(folder: Path, name: str = "atlas", suffix: str = "") -> Atlas:
         for sprite, it in index["frames"].items():
             assert sprite not in frames, sprite
             at, source, whole = it["frame"], it["spriteSourceSize"], (it["sourceSize"]["w"], it["sourceSize"]["h"])
-            frames[sprite] = Frame(number, at["x"], at["y"], at["w"], at["h"], source["x"], source["y"], whole)
+            place = number, at["x"], at["y"], at["w"], at["h"], source["x"], source["y"], whole
+            frames[sprite] = Frame(*place, it["rotated"])
     return Atlas(pages, frames, metas)
 
 
@@ -207,11 +151,12 @@ class SheetCase(unittest.TestCase):
         return read_atlas(self.out)
 
     def check_sprites(self, atlas: Atlas, pictures: Mapping[str, Picture]) -> None:
-        """Each sprite is as its file: what the index says is cut out of the page and put where it was."""
+        """Each sprite is as its file: what the index says is cut out of the page, turned back and put where it was."""
         self.assertEqual(sorted(atlas.frames), sorted(pictures))
         for name, picture in pictures.items():
             frame = atlas.frames[name]
-            part = Picture(frame.width, frame.height, atlas.pages[frame.page].cut(frame.x, frame.y, frame.width, frame.height))
+            part = Picture(*frame.size, atlas.pages[frame.page].cut(frame.x, frame.y, *frame.size))
+            part = part.turned(is_clockwise=False) if frame.turned else part
             right, bottom = frame.whole[0] - frame.left - frame.width, frame.whole[1] - frame.top - frame.height
             self.assertEqual(framed(part, frame.left, frame.top, right, bottom), picture, name)
 
@@ -220,13 +165,14 @@ class SheetCase(unittest.TestCase):
         for number, page in enumerate(atlas.pages):
             owners: dict[tuple[int, int], Frame] = {}
             # Sprites that are stored once have one place.
-            places = {(it.x, it.y, it.width, it.height): it for it in atlas.frames.values() if it.page == number}
+            places = {(it.x, it.y, *it.size): it for it in atlas.frames.values() if it.page == number}
             for it in places.values():
+                right, bottom = it.x + it.size[0], it.y + it.size[1]
                 self.assertGreaterEqual(min(it.x, it.y), border + extrude)
-                self.assertLessEqual(it.x + it.width + extrude + border, page.width)
-                self.assertLessEqual(it.y + it.height + extrude + border, page.height)
-                for y in range(it.y - extrude, it.y + it.height + extrude):
-                    for x in range(it.x - extrude, it.x + it.width + extrude):
+                self.assertLessEqual(right + extrude + border, page.width)
+                self.assertLessEqual(bottom + extrude + border, page.height)
+                for y in range(it.y - extrude, bottom + extrude):
+                    for x in range(it.x - extrude, right + extrude):
                         self.assertIsNone(owners.get((x, y)), "two sprites share a pixel")
                         owners[x, y] = it
             self.check_distances(list(places.values()), padding + 2 * extrude)
@@ -235,8 +181,8 @@ class SheetCase(unittest.TestCase):
     def check_distances(self, frames: list[Frame], least: int) -> None:
         for index, one in enumerate(frames):
             for other in frames[:index]:
-                across = max(one.x - other.x - other.width, other.x - one.x - one.width)
-                down = max(one.y - other.y - other.height, other.y - one.y - one.height)
+                across = max(one.x - other.x - other.size[0], other.x - one.x - one.size[0])
+                down = max(one.y - other.y - other.size[1], other.y - one.y - one.size[1])
                 self.assertGreaterEqual(max(across, down), least)
 
     def check_pixels(self, page: Picture, owners: Mapping[tuple[int, int], Frame]) -> None:
@@ -246,5 +192,5 @@ class SheetCase(unittest.TestCase):
                 if it is None:
                     self.assertEqual(page.at(x, y), CLEAR)
                 else:
-                    inside = min(max(x, it.x), it.x + it.width - 1), min(max(y, it.y), it.y + it.height - 1)
+                    inside = min(max(x, it.x), it.x + it.size[0] - 1), min(max(y, it.y), it.y + it.size[1] - 1)
                     self.assertEqual(page.at(x, y), page.at(*inside))

@@ -11,7 +11,7 @@ from .numbered import Animation, Naming, animations_of, numbered
 from .rules import Size
 from .sheets import Frame, Sheet
 
-__all__ = ["FORMATS", "refuse_name"]
+__all__ = ["CLOCKWISE", "FORMATS", "refuse_name"]
 
 
 def _size(size: Size) -> dict[str, int]:
@@ -23,11 +23,12 @@ def _part(corner: Size, size: Size) -> dict[str, int]:
 
 
 def _frame(frame: Frame) -> dict[str, Any]:
-    """Where a sprite is on its page, and where that stands in the whole sprite as it was before it was trimmed."""
+    """Where a sprite is on its page, and where that stands in the whole sprite as it was before it was trimmed. Of one that is
+    turned all sizes are as they were before."""
     sprite = frame.sprite
     return {
         "frame": _part(frame.corner, sprite.size),
-        "rotated": False,
+        "rotated": frame.is_turned,
         "trimmed": sprite.is_trimmed,
         "spriteSourceSize": _part(sprite.corner, sprite.size),
         "sourceSize": _size(sprite.whole),
@@ -70,13 +71,14 @@ def _phaser_multi(name: str, sheets: Sequence[Sheet], naming: Naming) -> dict[st
 
 
 def _region(frame: Frame, naming: Naming) -> list[str]:
-    """A sprite in an .atlas. What was trimmed is counted from the lower edge there."""
+    """A sprite in an .atlas. What was trimmed is counted from the lower edge there. Of one that is turned all sizes are as they
+    were before."""
     sprite = frame.sprite
     name, index = (naming.indices and numbered(sprite.name)) or (sprite.name, -1)
     below = sprite.whole[1] - sprite.size[1] - sprite.corner[1]
     return [
         name,
-        "  rotate: false",
+        f"  rotate: {'true' if frame.is_turned else 'false'}",
         "  xy: {}, {}".format(*frame.corner),
         "  size: {}, {}".format(*sprite.size),
         "  orig: {}, {}".format(*sprite.whole),
@@ -99,6 +101,9 @@ def _libgdx(name: str, sheets: Sequence[Sheet], naming: Naming) -> dict[str, str
 FORMATS: Mapping[str, Callable[[str, Sequence[Sheet], Naming], dict[str, str]]] = {
     "json-hash": _json_hash, "phaser-multi": _phaser_multi, "libgdx": _libgdx,
 }
+
+# Whether what is turned on a page was turned clockwise, for the readers of each format. They turn it back.
+CLOCKWISE: Mapping[str, bool] = {"json-hash": True, "phaser-multi": True, "libgdx": False}
 
 
 def refuse_name(name: str, path: Path, formats: Sequence[str]) -> None:

@@ -10,7 +10,7 @@ from typing import get_args
 
 from ... import AnyHeuristic, Heuristic
 from .._common import Wrong
-from .index import FORMATS
+from .index import CLOCKWISE, FORMATS
 from .numbered import Naming
 from .rules import PageRules, Size, is_power_of_two, rounded_up
 from .scales import AS_IT_IS, PageScale, grid_of, page_multiple, read_scales
@@ -57,6 +57,8 @@ class Options:
     folders: Sequence[Path]
     output: Path
     formats: Sequence[str]
+    # Which way sprites are turned, where they may be.
+    is_clockwise: bool
     rules: PageRules
     scales: Sequence[PageScale]
     naming: Naming
@@ -129,6 +131,9 @@ def add_words(parser: argparse.ArgumentParser) -> None:
     add("--extrude", type=pixels, default=0, metavar="N",
         help="repeat the outermost pixels of each sprite N times round it, so that filters do not mix in what is beside it; "
         "frames in the index are without them (0)")
+    add("--turn", action="store_true",
+        help="turn sprites by a quarter where pages get smaller by that, which the index says; for libgdx or for the others, "
+        "but not for both; it takes longer")
     add("--trim", action="store_true", help="leave out transparent borders; of a sprite without a visible pixel one is kept")
     add("--alias", action="store_true",
         help="store sprites of equal pixels once, with --group-by once a group; colours hidden under alpha 0 have to be "
@@ -144,8 +149,9 @@ def add_words(parser: argparse.ArgumentParser) -> None:
         help=f"what is packed first: {', '.join(get_args(Heuristic))}, or the best of all (best)")
     add("--page", type=Path, metavar="FILE", help="write an HTML page to look at")
     add("--json", action="store_true",
-        help="print what was decided as JSON: pages at the first scale, whose filled is a part of 1; sprites, whose source is "
-        "where the kept part was in the whole sprite, with the whole's size; animations, whose page is null where their frames "
+        help="print what was decided as JSON: pages at the first scale, whose filled is a part of 1; sprites, whose size is "
+        "that on the page, where they may be rotated, and whose source is where the kept part was in the whole sprite, with the "
+        "whole's size; animations, whose page is null where their frames "
         "are on several; files")
 
 
@@ -169,7 +175,16 @@ def _rules(words: argparse.Namespace, scales: Sequence[PageScale]) -> PageRules:
     if multiple > min(words.size):
         raise _no_side(multiple, words)
     padding, border, extrude = (rounded_up(it, grid) for it in (words.padding, words.border, words.extrude))
-    return PageRules(words.size, words.power_of_two, padding, border, extrude, words.square, multiple, grid)
+    return PageRules(
+        words.size, words.power_of_two, padding, border, extrude, words.square, multiple, grid, words.turn)
+
+
+def _is_clockwise(formats: Sequence[str], turn: bool) -> bool:
+    """Which way sprites are turned, where they may be. Refuses formats that have it otherwise."""
+    ways = {CLOCKWISE[it] for it in formats}
+    if turn and len(ways) > 1:
+        raise Wrong("--turn turns sprites counterclockwise for libgdx, and clockwise for the others: name either in --format")
+    return ways == {True}
 
 
 def options_of(words: argparse.Namespace) -> Options:
@@ -180,5 +195,5 @@ def options_of(words: argparse.Namespace) -> Options:
         raise Wrong("--index is for libgdx: name it in --format")
     naming = Naming(not words.no_animations, words.index)
     return Options(
-        words.folders, words.output, formats, rules, scales, naming, words.heuristic, words.trim, words.alias, words.group_by,
-        words.with_png, words.json, words.page)
+        words.folders, words.output, formats, _is_clockwise(formats, words.turn), rules, scales, naming, words.heuristic,
+        words.trim, words.alias, words.group_by, words.with_png, words.json, words.page)

@@ -11,7 +11,7 @@ from typing import Any
 from .._common import Wrong, needs
 from .rules import Size
 
-__all__ = ["check_pillow", "digest", "drawn_page", "kept_part", "read_picture", "resized"]
+__all__ = ["check_pillow", "digest", "drawn_page", "kept_part", "read_picture", "resized", "turned"]
 
 # Of Pillow, which has no types.
 Picture = Any
@@ -87,6 +87,13 @@ def resized(picture: Picture, size: Size) -> Picture:
     by = picture.width // size[0]
     # Of whole squares the mean is rounded once.
     return picture.reduce(by) if picture.size == (by * size[0], by * size[1]) else picture.resize(size, _pillow().BOX)
+
+
+def turned(picture: Picture, is_clockwise: bool) -> Picture:
+    """The picture, turned by a quarter."""
+    pillow = _pillow()
+    # Pillow counts degrees counterclockwise.
+    return picture.transpose(pillow.ROTATE_270 if is_clockwise else pillow.ROTATE_90)
 
 
 def digest(picture: Picture) -> bytes:

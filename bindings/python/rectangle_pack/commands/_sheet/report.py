@@ -47,7 +47,8 @@ def _sprite(frame: Frame, number: int) -> dict[str, Any]:
     sprite = frame.sprite
     return {
         "name": sprite.name, "file": str(sprite.path), "page": number,
-        "x": frame.corner[0], "y": frame.corner[1], "width": sprite.size[0], "height": sprite.size[1],
+        "x": frame.corner[0], "y": frame.corner[1], "width": frame.size[0], "height": frame.size[1],
+        "rotated": frame.is_turned,
         "source": {"x": sprite.corner[0], "y": sprite.corner[1], "width": sprite.whole[0], "height": sprite.whole[1]},
         "stored_as": frame.stored_as.name,
     }
@@ -73,10 +74,12 @@ def print_sheets(sheets: Sequence[Sheet], animations: Sequence[Animation], files
 def _items(sheet: Sheet, first: int) -> list[Item]:
     """What is stored on a page."""
     items = []
-    for number, (stored, corner) in enumerate(sheet.stored, first):
-        sprite, *others = stored.sprites
-        note = f"{sprite.path}; also: {', '.join(it.name for it in others)}" if others else str(sprite.path)
-        items.append(Item(number, sprite.name, sheet.image, (*corner, 0), (*sprite.size, 1), sprite.folder, note))
+    for number, placed in enumerate(sheet.stored, first):
+        sprite, *others = placed.stored.sprites
+        notes = [str(sprite.path), *(["turned"] if placed.is_turned else [])]
+        notes += [f"also: {', '.join(it.name for it in others)}"] if others else []
+        items.append(Item(
+            number, sprite.name, sheet.image, (*placed.corner, 0), (*placed.size, 1), sprite.folder, "; ".join(notes)))
     return items
 
 

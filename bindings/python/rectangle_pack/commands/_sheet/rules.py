@@ -4,12 +4,16 @@ from __future__ import annotations
 from dataclasses import dataclass
 from itertools import product
 
-from ... import Bin, Box
+from ... import AnyHeuristic, Bin, Box
+from .packer import Packer
 
 __all__ = ["PageRules", "Size", "is_power_of_two", "rounded_up", "shown"]
 
 # A width and a height.
 Size = tuple[int, int]
+
+# So many tries a search makes for a packing in which sprites may be turned.
+TRIES = 200
 
 
 def shown(size: Size) -> str:
@@ -53,6 +57,8 @@ class PageRules:
     # No greater than a side of the limit. With powers of two it is one.
     multiple_of: int = 1
     grid: int = 1
+    # Whether sprites may be turned by a quarter.
+    turn: bool = False
 
     def _side_below(self, side: int) -> int:
         """The greatest side of a page that is not above this one."""
@@ -89,6 +95,16 @@ class PageRules:
         """The largest sprite that a page takes. It may be below 1."""
         round_it = 2 * (self.border + self.extrude)
         return self.most[0] - round_it, self.most[1] - round_it
+
+    def takes(self, sprite: Size) -> bool:
+        """Whether a page takes a sprite."""
+        width, height = self.most_for_one
+        ways = (sprite, sprite[::-1]) if self.turn else (sprite,)
+        return any(it[0] <= width and it[1] <= height for it in ways)
+
+    def packer(self, heuristic: AnyHeuristic) -> Packer:
+        """How boxes are packed. Where they may be turned that is searched for, by all heuristics."""
+        return Packer(heuristic, TRIES if self.turn else 0)
 
     @property
     def has_few_sizes(self) -> bool:

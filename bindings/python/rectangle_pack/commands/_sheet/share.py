@@ -3,16 +3,14 @@ from __future__ import annotations
 
 from collections.abc import Iterator, Mapping, Sequence
 from dataclasses import dataclass
-from typing import Any, get_args
+from typing import Any
 
-from ... import AnyHeuristic, Bin, Box, Heuristic, Packing, Session, pack
+from ... import AnyHeuristic, Bin, Box, Heuristic, Packing, Session
 from .._common import NoRoom, progress
+from .packer import Boxes, Packer
 from .rules import PageRules, Size, shown
 
-__all__ = ["Boxes", "Page", "cells_of", "shared_out"]
-
-# Each by its index.
-Boxes = Mapping[int, Box]
+__all__ = ["Page", "cells_of", "pages_of", "shared_out"]
 
 # After a group that does not fit a page, the next to be tried there is smaller by a part of its cells: the number of boxes in so
 # many. So for many boxes there are few tries, and for few boxes all groups are tried.
@@ -24,10 +22,17 @@ _TIMES_AT_ONCE = 8
 
 @dataclass(frozen=True)
 class Page:
-    """The boxes on a page, each with its corner in the bin, and what they were packed by."""
+    """The boxes on a page, each with its corner in the bin; which of them are turned; and what they were packed by, None where
+    that was searched for."""
 
-    heuristic: Heuristic
+    heuristic: Heuristic | None
     corners: Mapping[int, Size]
+    turned: frozenset[int] = frozenset()
+
+    def end_of(self, index: int, box: Box) -> Size:
+        """The corner of a box that is opposite to its own one."""
+        x, y = self.corners[index]
+        return (x + box.height, y + box.width) if index in self.turned else (x + box.width, y + box.height)
 
 
 def cells_of(boxes: Boxes) -> int:
@@ -43,27 +48,26 @@ def _groups(boxes: Boxes) -> dict[object, dict[int, Box]]:
     return groups
 
 
-def _pages(*packings: Packing[int, Any]) -> list[Page]:
+def pages_of(*packings: Packing[int, Any]) -> list[Page]:
     """The pages of packings into the same bins, by one heuristic."""
     pages: dict[int, dict[int, Size]] = {}
-    heuristic = packings[0].heuristic
-    assert heuristic
     for it in (it for packing in packings for it in packing):
         pages.setdefault(it.bin, {})[it.name] = (it.x, it.y)
-    return [Page(heuristic, pages[number]) for number in sorted(pages)]
+    turned = frozenset(it.name for packing in packings for it in packing if it.turned)
+    return [Page(packings[0].heuristic, pages[number], turned & pages[number].keys()) for number in sorted(pages)]
 
 
 class _Sharing:
     """Boxes, and the pages that are filled by them one after the other. Of boxes that are rated alike the first goes first."""
 
-    def __init__(self, boxes: Boxes, bin: Bin, heuristic: AnyHeuristic) -> None:
-        self._boxes, self._bin, self._heuristic = boxes, bin, heuristic
+    def __init__(self, boxes: Boxes, bin: Bin, packer: Packer) -> None:
+        self._boxes, self._bin, self._packer = boxes, bin, packer
         self._room = bin.width * bin.height
         self._filled: list[Page] = []
 
     def fitting(self, boxes: Boxes, count: int = 1) -> Packing[int, Any]:
         """What fits of these boxes onto so many pages."""
-        return pack([self._bin] * count, boxes, heuristic=self._heuristic, partial=True)
+        return self._packer.fitting([self._bin] * count, boxes)
 
     def refused(self) -> list[tuple[object, int]]:
         """The groups that fit no page, and how many boxes each has."""
@@ -83,9 +87,8 @@ class _Sharing:
         """A page with as many groups as are found for it, and with boxes that are alone in what these leave."""
         groups, alone = self._gathered(left), {index: box for index, box in left.items() if box.group is None}
         if not groups or not alone:
-            return _pages(self.fitting(groups or alone))[0]
-        tried = get_args(Heuristic) if self._heuristic == "best" else (self._heuristic,)
-        pages = [page for heuristic in tried for page in self._with_alone(groups, alone, heuristic)]
+            return pages_of(self.fitting(groups or alone))[0]
+        pages = [page for packer in self._packer.each for page in self._with_alone(groups, alone, packer)]
         return max(pages, key=self._cells)
 
     def _gathered(self, left: Boxes) -> dict[int, Box]:
@@ -109,11 +112,11 @@ class _Sharing:
             waiting = [it for it in waiting if it[0] <= most]
         return chosen
 
-    def _with_alone(self, groups: Boxes, alone: Boxes, heuristic: Heuristic) -> list[Page]:
-        """The page of these groups, and of what fits beside them. None where this heuristic does not get them onto a page."""
+    def _with_alone(self, groups: Boxes, alone: Boxes, packer: Packer) -> list[Page]:
+        """The page of these groups, and of what fits beside them. None where this packer does not get them onto a page."""
         with Session([self._bin]) as session:
-            packing = session.pack(groups, heuristic=heuristic, partial=True)
-            return [] if packing.left else _pages(packing, session.pack(alone, heuristic=heuristic, partial=True))
+            packing = packer.fitting_free(session, groups)
+            return [] if packing.left else pages_of(packing, packer.fitting_free(session, alone))
 
     def fewest(self) -> list[Page]:
         """The filled pages, or better ones, of which the first stay, and all other boxes are packed at once."""
@@ -126,7 +129,7 @@ class _Sharing:
                 packing = self.fitting(left, count)
                 last = self.fitting({it.name: left[it.name] for it in packing.left})
                 if not last.left:
-                    best = min(best, [*self._filled[:kept], *_pages(packing), *_pages(last)], key=self.use)
+                    best = min(best, [*self._filled[:kept], *pages_of(packing), *pages_of(last)], key=self.use)
             for index in page.corners:
                 del left[index]
         return best
@@ -142,10 +145,11 @@ class _Sharing:
 def shared_out(boxes: Sequence[Box], rules: PageRules, heuristic: AnyHeuristic) -> list[Page]:
     """The pages, each of the greatest size. Each box fits a page. Refuses a group that fits none.
 
-    All is done in two orders, the given one and by falling sum of the sides, as either may need fewer pages."""
-    given, bin = dict(enumerate(boxes)), rules.bin(rules.most)
+    All is done in two orders, the given one and by falling sum of the sides, as either may need fewer pages. A search tries
+    orders itself."""
+    given, bin, packer = dict(enumerate(boxes)), rules.bin(rules.most), rules.packer(heuristic)
     falling = dict(sorted(given.items(), key=lambda it: it[1].width + it[1].height, reverse=True))
-    sharings = [_Sharing(ordered, bin, heuristic) for ordered in (given, falling)]
+    sharings = [_Sharing(ordered, bin, packer) for ordered in ((given,) if packer.tries else (given, falling))]
     takers = [sharing for sharing in sharings if not sharing.refused()]
     if not takers:
         group, count = sharings[0].refused()[0]

@@ -6,15 +6,16 @@ import math
 from collections.abc import Sequence
 from dataclasses import dataclass
 
-from ... import AnyHeuristic, Bin, Box, NotEnoughBinSpace, pack
+from ... import AnyHeuristic, Bin, Box
 from .._common import progress
+from .packer import Boxes
 from .rules import PageRules, Size
-from .share import Boxes, Page, cells_of
+from .share import Page, cells_of, pages_of
 
 __all__ = ["Smallest", "shrunk"]
 
 # In at least so many steps the widths go from the least to the greatest one that is tried. There are more steps for few boxes:
-# so many that steps times boxes are as many as this.
+# so many that steps times boxes are as many as this. A search for how boxes are turned is made in the least number of steps.
 _STEPS, _STEPS_TIMES_BOXES = 48, 24_000
 
 
@@ -37,25 +38,26 @@ class _Search:
     def __init__(self, page: Page, boxes: Boxes, rules: PageRules, heuristic: AnyHeuristic) -> None:
         # They stay together anyway, so groups count no longer.
         self._boxes = {index: Box(*boxes[index][:2]) for index in page.corners}
-        self._rules, self._heuristic = rules, heuristic
+        self._rules, self._packer = rules, rules.packer(heuristic)
         self._cells = cells_of(self._boxes)
+        # The sides that a bin has at least.
         self._widest = max(box.width for box in self._boxes.values())
         self._highest = max(box.height for box in self._boxes.values())
+        if rules.turn:
+            self._widest = self._highest = max(min(box.width, box.height) for box in self._boxes.values())
         self.best = self._cut_off(page)
 
     def _cut_off(self, page: Page) -> Smallest:
         """A page without what is empty at its right and at its lower edge."""
-        ends = [(x + self._boxes[index].width, y + self._boxes[index].height) for index, (x, y) in page.corners.items()]
+        ends = [page.end_of(index, box) for index, box in self._boxes.items()]
         return Smallest(self._rules.page((max(x for x, _ in ends), max(y for _, y in ends))), page)
 
     def _take(self, bin: Bin) -> bool:
         """Whether this bin takes the boxes. If the page is smaller than the best one, it is the best from then on."""
-        try:
-            packing = pack([bin], self._boxes, heuristic=self._heuristic)
-        except NotEnoughBinSpace:
+        packing = self._packer.whole(bin, self._boxes)
+        if packing is None:
             return False
-        assert packing.heuristic
-        found = self._cut_off(Page(packing.heuristic, {it.name: (it.x, it.y) for it in packing}))
+        found = self._cut_off(*pages_of(packing))
         if _rank(found.size) < _rank(self.best.size):
             self.best = found
         return True
@@ -84,7 +86,8 @@ class _Search:
         most, root = self._rules.bin(self._rules.most), math.isqrt(self._cells)
         least = max(self._widest, -(-self._cells // most.height), min(root // 2, most.width))
         greatest = min(most.width, 2 * max(least, root))
-        steps = max(1, min(greatest - least, max(_STEPS, _STEPS_TIMES_BOXES // len(self._boxes))))
+        most_steps = _STEPS if self._packer.tries else max(_STEPS, _STEPS_TIMES_BOXES // len(self._boxes))
+        steps = max(1, min(greatest - least, most_steps))
         widths = {self._whole_width(least + (greatest - least) * step // steps) for step in range(steps + 1)}
         return [Bin(width, most.height) for width in sorted(widths, key=lambda it: (abs(it - root), it))]
 

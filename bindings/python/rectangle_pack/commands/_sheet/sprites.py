@@ -50,8 +50,8 @@ def _group(folder: str, group_by: str) -> str:
 
 def _refuse_too_large(sprite: Sprite, rules: PageRules) -> None:
     """Refuses a sprite that no page takes."""
-    width, height = rules.most_for_one
-    if sprite.size[0] > width or sprite.size[1] > height:
+    if not rules.takes(sprite.size):
+        width, height = rules.most_for_one
         size = shown(sprite.size) + (" after trimming" if sprite.is_trimmed else "")
         most = shown((max(width, 0), max(height, 0)))
         raise NoRoom(f"{sprite.path}: is {size}, and a page of {shown(rules.most)} takes {most} at most{rules.why_most}")
