@@ -114,7 +114,7 @@ def drawn_job(r: random.Random) -> Json:
     if len(groups) > 1 and r.random() < 0.5:
         job["exclude"] = [r.sample(groups, 2) for _ in range(r.randint(1, 2))]
     if is_searched:
-        job.update(tries=r.randint(0, 50), seed=r.randint(0, 9))
+        job.update(tries=r.choice([0, 1, 20, 200, 500]), seed=r.randint(0, 9))
         job.update({"turn": r.choice(TURNS)} if r.random() < 0.5 else {})
     elif r.random() < 0.7:
         job["heuristic"] = r.choice(["best", *HEURISTICS])

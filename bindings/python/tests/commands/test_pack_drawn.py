@@ -18,7 +18,8 @@ def packed_alike(job: Json) -> Any:
         (index, piece): Box(it["width"], it["height"], it.get("depth", 1), *it.get("groups", ()))
         for index, it in enumerate(job["boxes"]) for piece in range(it.get("count", 1))}
     bins = [Bin(it["width"], it["height"], it.get("depth", 1), it.get("count", 1), it.get("cost", 1)) for it in job["bins"]]
-    more: Json = {"groups": {name: [] for name in job.get("groups", ())}, "exclude": job.get("exclude", ())}
+    named = [*job.get("groups", ()), *(name for it in job["boxes"] for name in it.get("groups", ()))]
+    more: Json = {"groups": {name: [] for name in named}, "exclude": job.get("exclude", ())}
     turns = [it.get("turn", job.get("turn", "none")) for it in job["boxes"]]
     if job.get("tries") or {job.get("turn", "none"), *turns} != {"none"}:
         more.update(tries=job.get("tries", 0), seed=job.get("seed", 0), turn={name: turns[name[0]] for name in boxes})

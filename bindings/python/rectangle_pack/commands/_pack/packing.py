@@ -51,7 +51,9 @@ def _groups(kinds: Sequence[BoxKind], others: Sequence[str]) -> dict[str, list[i
 def _fitting(job: Job, kinds: Sequence[BoxKind], progress: Asked | None) -> Packing[int, Placement[int, int]]:
     """What fits of these boxes, each told by its kind."""
     boxes = [Box(*it.size, group=it.groups[0] if it.groups else None) for it in kinds]
-    groups, bins = _groups(kinds, job.groups), [it.bin for it in job.bins]
+    # A group may be named by none but a box of which there are none.
+    named = [*job.groups, *(group for it in job.boxes for group in it.groups)]
+    groups, bins = _groups(kinds, named), [it.bin for it in job.bins]
     if not job.is_searched:
         return pack(bins, boxes, groups=groups, exclude=job.exclude, heuristic=job.heuristic, partial=True)
     return pack(
