@@ -13,7 +13,7 @@ except OSError as why:
     raise unittest.SkipTest(f"the shared library is not there: {why}") from None
 
 from rectangle_pack.commands._common import NoRoom
-from rectangle_pack.commands._sheet import share
+from rectangle_pack.commands._sheet import packer
 from rectangle_pack.commands._sheet.rules import PageRules
 from rectangle_pack.commands._sheet.share import Page, shared_out
 
@@ -136,7 +136,7 @@ class Time(unittest.TestCase):
     def test_how_often_boxes_are_packed(self) -> None:
         # If groups of two were tried one by one, a page that takes 300 of them would have its boxes packed 150 times in the mean.
         for boxes in self.sets:
-            with patch.object(share, "pack", wraps=pack) as packed:
+            with patch.object(packer, "pack", wraps=pack) as packed:
                 shared_out(boxes, PageRules((100, 100)), "best")
             self.assertLess(sum(len(call.args[1]) for call in packed.call_args_list), 100 * len(boxes))
 
