@@ -91,6 +91,16 @@ class ByHand(SheetCase):
             "atlas.png", "size: 2,3", "format: RGBA8888", "filter: Nearest,Nearest", "repeat: none", "six", "  rotate: true",
             "  xy: 0, 0", "  size: 3, 2", "  orig: 3, 2", "  offset: 0, 0", "  index: -1", ""]))
 
+    def test_sprites_that_fit_one_way_alone(self) -> None:
+        """Each takes a page alone, as two have a short side of 32 together, or more; one that is across has to be turned."""
+        sizes = {"tall": (16, 60), "wide": (60, 16), "taller": (17, 61), "wider": (61, 17)}
+        self.write({name: full(*size) for name, size in sizes.items()})
+        for limit, across in (("20x64", {"wide", "wider"}), ("64x20", {"tall", "taller"})):
+            self.sheet("--padding", 0, "--size", limit, "--turn")
+            texts = [json.loads(path.read_text())["frames"] for path in self.out.glob("atlas*.json")]
+            self.assertEqual(len(texts), 4)
+            self.assertEqual({name for it in texts for name, frame in it.items() if frame["rotated"]}, across)
+
     def test_what_is_trimmed_is_told_as_before(self) -> None:
         self.write({"six": framed(SIX, 1, 2, 5, 7)})
         words = ("--size", "2x3", "--turn", "--trim")

@@ -12,7 +12,8 @@ __all__ = ["PageRules", "Size", "is_power_of_two", "rounded_up", "shown"]
 # A width and a height.
 Size = tuple[int, int]
 
-# So many tries a search makes for a packing in which sprites may be turned.
+# So many tries a search makes for a packing in which sprites may be turned. The first 192 are one third each with all sprites as
+# they are, all lying and all standing. With fewer, a sprite that fits a page in one of these ways alone might be left.
 TRIES = 200
 
 

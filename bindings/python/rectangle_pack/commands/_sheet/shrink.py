@@ -15,8 +15,8 @@ from .share import Page, cells_of, pages_of
 __all__ = ["Smallest", "shrunk"]
 
 # In at least so many steps the widths go from the least to the greatest one that is tried. There are more steps for few boxes:
-# so many that steps times boxes are as many as this. A search for how boxes are turned is made in the least number of steps.
-_STEPS, _STEPS_TIMES_BOXES = 48, 24_000
+# so many that steps times boxes are as many as this. A search for how boxes are turned takes longer, and is made in fewer steps.
+_STEPS, _STEPS_TIMES_BOXES, _STEPS_OF_SEARCH = 48, 24_000, 8
 
 
 def _rank(size: Size) -> tuple[int, int]:
@@ -86,7 +86,7 @@ class _Search:
         most, root = self._rules.bin(self._rules.most), math.isqrt(self._cells)
         least = max(self._widest, -(-self._cells // most.height), min(root // 2, most.width))
         greatest = min(most.width, 2 * max(least, root))
-        most_steps = _STEPS if self._packer.tries else max(_STEPS, _STEPS_TIMES_BOXES // len(self._boxes))
+        most_steps = _STEPS_OF_SEARCH if self._packer.tries else max(_STEPS, _STEPS_TIMES_BOXES // len(self._boxes))
         steps = max(1, min(greatest - least, most_steps))
         widths = {self._whole_width(least + (greatest - least) * step // steps) for step in range(steps + 1)}
         return [Bin(width, most.height) for width in sorted(widths, key=lambda it: (abs(it - root), it))]
