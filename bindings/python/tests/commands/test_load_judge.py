@@ -139,6 +139,21 @@ def faults_of_customers(answer, apart, together):
     return faults
 
 
+def faults_of_weights(rows, containers, answer):
+    """What each container carries is no more than it may, and what is said of it is so."""
+    faults, payloads = [], {row["name"]: row.get("payload") for row in containers}
+    for it in answer["containers"]:
+        weight = sum((Decimal(rows[step["line"] - 2].get("weight") or 0) for step in it["steps"]), Decimal(0))
+        payload = payloads[it["kind"]]
+        if payload and weight > Decimal(payload):
+            faults.append("over the payload")
+        if it["weight"] is not None and exact(it["weight"]) != weight:
+            faults.append("weight is wrong")
+        if it["payload"] is not None and exact(it["payload"]) != Decimal(payload):
+            faults.append("another payload")
+    return faults
+
+
 def faults_of_sums(rows, containers, answer):
     """The containers are those of the table, not too many, and what is said of them is so."""
     faults, by_name = [], {row["name"]: row for row in containers}
@@ -174,11 +189,15 @@ def faults_of(crates, containers, answer, apart=(), together=False):
         boxes = [box_of(step) for step in it["steps"]]
         room = tuple(exact(it[side]) for side in ("wide", "high", "long"))
         faults += faults_of_places(room, boxes) + faults_of_support(rows, boxes) + faults_of_loading(boxes)
-    return faults + faults_of_customers(answer, apart, together) + faults_of_sums(rows, read(containers), answer)
+    rooms = read(containers)
+    return (faults + faults_of_customers(answer, apart, together) + faults_of_weights(rows, rooms, answer)
+            + faults_of_sums(rows, rooms, answer))
 
 
-ROWS = "name,count,length,width,height,customer,down,stackable", "plank,2,4,2,1,Miller,upright,", "cube,1,2,2,2,Smith,any,no"
-ROOMS = "name,count,length,width,height,cost", "van,1,4,2,4,7.5"
+ROWS = (
+    "name,count,length,width,height,customer,down,stackable,weight", "plank,2,4,2,1,Miller,upright,,20.5",
+    "cube,1,2,2,2,Smith,any,no,9")
+ROOMS = "name,count,length,width,height,cost,payload", "van,1,4,2,4,7.5,50"
 
 
 def step(number, line, piece, place, sides, on=()):
@@ -191,7 +210,8 @@ def step(number, line, piece, place, sides, on=()):
 
 # Two planks on each other, and a cube on them: 24 of 32.
 GOOD = {"cost": 7.5, "filled": 75, "containers": [{
-    "name": "van", "kind": "van", "wide": 2, "high": 4, "long": 4, "length_in_use": 4, "steps": [
+    "name": "van", "kind": "van", "wide": 2, "high": 4, "long": 4, "length_in_use": 4, "weight": 50, "payload": 50,
+    "steps": [
         step(1, 2, 1, (0, 0, 0), (2, 1, 4)), step(2, 2, 2, (0, 1, 0), (2, 1, 4), [1]),
         step(3, 3, 1, (0, 2, 1), (2, 2, 2), [2])]}]}
 
@@ -231,6 +251,9 @@ class Judge(unittest.TestCase):
             "another container": lambda _, answer: answer["containers"][0].update(high=5),
             "another length in use": lambda _, answer: answer["containers"][0].update(length_in_use=3),
             "filled is wrong": lambda _, answer: answer.update(filled=75.1),
+            "weight is wrong": lambda _, answer: answer["containers"][0].update(weight=49),
+            "another payload": lambda _, answer: answer["containers"][0].update(payload=51),
+            "over the payload": lambda steps, _: steps.append(steps[2]),
             "cost is wrong": lambda _, answer: answer.update(cost=7),
         }
         for fault, change in changes.items():
@@ -249,6 +272,9 @@ class Judge(unittest.TestCase):
             steps[:] = [step(1, 2, 1, (0, 0, 0), (2, 1, 4)), step(2, 2, 2, (0, 1, 0), (2, 1, 4), [1]),
                         step(3, 3, 1, (0, 2, 2), (2, 2, 2), [2])]
             steps.append({**step(4, 3, 2, (0, 2, 0), (2, 2, 2), [2])})
+            answer["containers"][0].update(weight=None)
+            self.tables[1].write_text(ROOMS[0] + "\nvan,1,4,2,4,7.5,59\n", encoding="utf-8")
+            answer["containers"][0].update(payload=59)
 
         self.assertEqual(set(self.faults(behind)), {"not each crate once", "no way in"})
 

@@ -11,7 +11,7 @@ from rectangle_pack.commands import view
 from rectangle_pack.commands._load.printing import scene_of
 from rectangle_pack.commands._load.reading import read_job
 from rectangle_pack.commands._load.report import report_of
-from rectangle_pack.commands._load.search import best_load
+from rectangle_pack.commands._load.search import Search
 
 HEAD = "name,count,length,width,height"
 
@@ -28,6 +28,7 @@ step  crate  customer  x  y  z  wide  high  long  down    on
    2  cube   Miller    0  0  1     1     1     1  bottom  floor
 
 1 container, cost 5.50, 2 crates, 100 % filled
+no plan needs fewer containers: proved
 """
 
 # Two lines for one container, and what its plan says.
@@ -66,7 +67,7 @@ class Output(LoadCase):
         _, out, _ = self.run_load(self.crates(HEAD, "a,1,1,1,1"), self.containers(HEAD, "van,1,3,1,1"))
         self.assertEqual(out.splitlines()[0][-4:], "door")
         self.assertEqual(out.splitlines()[2], "van: 1 wide, 1 high, 3 long; 1 crate, 33.3 % filled, 1 of the length in use")
-        self.assertEqual(out.splitlines()[-1], "1 container, 1 crate, 33.3 % filled")
+        self.assertEqual(out.splitlines()[-2], "1 container, 1 crate, 33.3 % filled")
 
     def test_bytes_that_are_no_text(self):
         status, out, _ = self.run_load(self.crates(*ROW), self.containers(*VAN), "--unit", "c\udcffm")
@@ -74,7 +75,7 @@ class Output(LoadCase):
 
     def test_what_is_not_whole_is_not_said_to_be(self):
         _, out, _ = self.run_load(self.crates(HEAD, "a,1,9999,1,1"), self.containers(HEAD, "van,1,10000,1,1"))
-        self.assertEqual(out.splitlines()[-1], "1 container, 1 crate, 99.9 % filled")
+        self.assertEqual(out.splitlines()[-2], "1 container, 1 crate, 99.9 % filled")
 
     def test_what_a_crate_stands_on(self):
         tables = self.crates(*PLANK), self.containers(*LONG_VAN)
@@ -93,7 +94,7 @@ class Output(LoadCase):
         self.assertTrue(plan.startswith(MIXED_PLAN), plan)
         # Below its head it has the steps that are printed, each with a box to tick.
         printed = out.splitlines()
-        steps = printed[printed.index(MIXED_PLAN.splitlines()[-1].strip()) + 1:-2]
+        steps = printed[printed.index(MIXED_PLAN.splitlines()[-1].strip()) + 1:-3]
         self.assertEqual(plan[len(MIXED_PLAN):].splitlines(), [f"[ ] {step}" for step in steps])
         self.assertEqual(len(steps), 11)
 
@@ -108,16 +109,16 @@ class Output(LoadCase):
             self.assertEqual(sums, "1 crate, 100 % filled, 1 of the length in use")
 
     def test_columns_that_are_not_known(self):
-        crates = self.crates(f"{HEAD},Weight,colour,weight", "cube,2,1,1,1,400,red,9")
-        containers = self.containers("payload,name,count,length,width,height", "9000,van,1,2,1,1")
+        crates = self.crates(f"{HEAD},Owner,colour,owner", "cube,2,1,1,1,Miller,red,9")
+        containers = self.containers("tare,name,count,length,width,height", "2300,van,1,2,1,1")
         apart = self.table("apart.csv", "customer,other,why", "Miller,Smith,smell")
         status, out, error = self.run_load(crates, containers, "--apart-list", apart)
-        self.assertEqual((status, out.splitlines()[-1]), (0, "1 container, 2 crates, 100 % filled"))
+        self.assertEqual((status, out.splitlines()[-2]), (0, "1 container, 2 crates, 100 % filled"))
         known = "name, length, width, height, count"
         self.assertEqual(error.splitlines()[:3], [
-            f"note: {crates}:1: the columns 'weight', 'colour' are not known, and passed over; there are: {known}, customer, "
-            "down, stackable",
-            f"note: {containers}:1: the column 'payload' is not known, and passed over; there are: {known}, cost",
+            f"note: {crates}:1: the columns 'owner', 'colour' are not known, and passed over; there are: {known}, customer, "
+            "down, stackable, weight",
+            f"note: {containers}:1: the column 'tare' is not known, and passed over; there are: {known}, cost, payload",
             f"note: {apart}:1: the column 'why' is not known, and passed over; there are: customer, other",
         ])
         self.assertEqual(len(error.splitlines()), 5)
@@ -171,14 +172,16 @@ class Output(LoadCase):
     def test_the_help_names_each_column(self):
         status, out, _ = self.run_load("--help")
         self.assertEqual(status, 0)
-        for column in ("name", "count", "length", "width", "height", "customer", "down", "stackable", "cost"):
+        for column in ("name", "count", "length", "width", "height", "customer", "down", "stackable", "cost", "weight", "payload"):
             self.assertRegex(out, rf"\n  [a-z, ]*\b{column}\b")
 
 
 class Page(LoadCase):
     def scene(self, crates, containers, **asked):
         job = read_job(self.crates(*crates), self.containers(*containers), **asked)
-        return scene_of(report_of(best_load(job, 20)), "Load of crates.csv")
+        search = Search(job, 20)
+        search.run()
+        return scene_of(report_of(search.short(), search.least), "Load of crates.csv")
 
     def test_a_step_for_each_crate_in_the_order_of_loading(self):
         scene = self.scene(PLANK, LONG_VAN)
@@ -193,14 +196,14 @@ class Page(LoadCase):
         self.assertEqual((scene.unit, dict(scene.facts)), ("cells", {"containers": "1", "crates": "6", "filled": "100 %"}))
 
     def test_customers_faces_and_cost(self):
-        scene = self.scene((f"{HEAD},customer,down", "a,1,3,1,1,Miller,end"), VAN[:1] + ("van,2,1,1,3,5.50",), unit="m")
+        scene = self.scene((f"{HEAD},customer,down", "a,1,3,1,1,Miller,end"), VAN[:1] + ("van,2,1,1,3,5.50",), units=("m", ""))
         item, = scene.steps[0].placed
         self.assertEqual((item.name, item.group, item.note, item.bin), ("a", "Miller", "end down", "van 1"))
         self.assertEqual((scene.unit, dict(scene.facts)["cost"]), ("m", "5.50"))
 
     def test_a_cell_is_the_last_decimal(self):
         tables = (HEAD, "a,1,0.5,0.25,1"), (HEAD, "van,1,1,1,1.5")
-        scene = self.scene(*tables, unit="m")
+        scene = self.scene(*tables, units=("m", ""))
         self.assertEqual((scene.unit, scene.rooms[0].size), ("0.01 m", (100, 150, 100)))
         self.assertIn(scene.steps[0].placed[0].size, {(25, 100, 50), (50, 100, 25)})
         self.assertEqual(self.scene(*tables).unit, "0.01 units")

@@ -1,4 +1,4 @@
-"""The order of loading, on crates that were placed by hand, and the customers that a container is opened for."""
+"""The order of loading, on crates that were placed by hand; and the stacks that crates are made into."""
 import random
 import unittest
 from itertools import combinations, permutations, product
@@ -7,9 +7,9 @@ from itertools import combinations, permutations, product
 from .test_load_base import LoadCase
 
 from rectangle_pack.commands._common import NoRoom
-from rectangle_pack.commands._load.customers import closed_to
-from rectangle_pack.commands._load.job import FACES, Kind, Room, Standing, Turn, turns_of
+from rectangle_pack.commands._load.job import FACES, Container, Job, Kind, Room, Standing, Turn, turns_of
 from rectangle_pack.commands._load.order import NoOrder, in_order
+from rectangle_pack.commands._load.stacks import ORDERS, TURNINGS, WAYS, Way, stacks_of
 
 
 def standing(name, low, high):
@@ -117,47 +117,77 @@ class Turns(unittest.TestCase):
             self.assertFalse(turn.fits(room))
 
 
-def apart_of(pairs):
-    apart = {}
-    for one, other in pairs:
-        apart[one] = apart.get(one, frozenset()) | {other}
-        apart[other] = apart.get(other, frozenset()) | {one}
-    return apart
+def kind_of(index, sizes, count=1, *, customer="", faces=("bottom",), is_stackable=True, weight=0):
+    return Kind(index, f"kind {index}", customer, count, sizes, turns_of(*sizes, faces), index + 2, is_stackable, weight)
 
 
-class Closed(unittest.TestCase):
-    """The customers that a container is closed to."""
+def drawn_kinds(draw):
+    for index in range(draw.randint(1, 12)):
+        sizes = tuple(draw.randint(2, 9) for _ in range(3))
+        yield kind_of(
+            index, sizes, draw.randint(0, 6), customer=draw.choice("ABC") if draw.random() < 0.7 else "",
+            faces=draw.choice((FACES, FACES[:1], FACES[1:])), is_stackable=draw.random() < 0.8, weight=draw.randint(0, 9))
 
-    def opened(self, volumes, apart):
-        """Container after container until nobody is left: who may go into each."""
-        while volumes:
-            closed = closed_to(volumes, apart)
-            inside = set(volumes) - closed
-            yield inside
-            volumes = {it: volumes[it] for it in closed}
 
-    def test_those_who_may_go_in_are_apart_from_none_of_them_and_are_all(self):
+def drawn_way(draw):
+    names = draw.choice(list(TURNINGS)), draw.choice(list(ORDERS)), draw.choice(list(ORDERS))
+    return Way(*names, *(draw.random() < 0.5 for _ in range(2)), draw.choice((0.0, 0.5)), draw.randint(0, 99))
+
+
+class Stacks(unittest.TestCase):
+    ROOM = Room(20, 22, 60)
+
+    def stacks(self, kinds, way=WAYS[0], *, apart={}, together=False, payload=None):
+        container = Container(0, "van", 9, self.ROOM, payload=payload)
+        job = Job(tuple(kinds), (container,), apart, together)
+        return stacks_of(job, [kind.count for kind in kinds], way, [container], self.ROOM.high)
+
+    def test_each_crate_is_in_one_stack_and_stands_on_its_whole_bottom(self):
+        for seed in range(200):
+            draw = random.Random(seed)
+            kinds = list(drawn_kinds(draw))
+            stacks = self.stacks(kinds, drawn_way(draw))
+            counts = [sum(it.kind is kind for stack in stacks for it in stack.crates) for kind in kinds]
+            self.assertEqual(counts, [kind.count for kind in kinds])
+            for stack in stacks:
+                for it in stack.crates:
+                    self.assertTrue(0 <= it.x and it.right <= stack.wide and it.front <= stack.long and it.top <= self.ROOM.high)
+                    self.assertIn(it.turn, it.kind.turns)
+                    below = [on for on in stack.crates if on.top == it.y and on.x < it.right and it.x < on.right
+                             and on.z < it.front and it.z < on.front]
+                    area = sum((min(on.right, it.right) - max(on.x, it.x)) * (min(on.front, it.front) - max(on.z, it.z)) for on in below)
+                    self.assertTrue(not it.y or area == it.turn.wide * it.turn.long)
+                    self.assertTrue(all(on.kind.is_stackable for on in below))
+
+    def test_customers_that_are_apart_share_no_stack(self):
+        apart = {"A": frozenset("B"), "B": frozenset("A")}
+        mixed = 0
         for seed in range(100):
             draw = random.Random(seed)
-            customers = "ABCDEFGH"[:draw.randint(1, 8)]
-            apart = apart_of(pair for pair in combinations(customers, 2) if draw.random() < 0.4)
-            volumes = {it: draw.randint(1, 9) for it in customers}
-            inside = set(volumes) - closed_to(volumes, apart)
-            self.assertTrue(inside)
-            self.assertFalse(any(apart.get(it, frozenset()) & inside for it in inside))
-            for other in set(volumes) - inside:
-                self.assertTrue(apart[other] & inside)
+            for stack in self.stacks(list(drawn_kinds(draw)), drawn_way(draw), apart=apart):
+                self.assertFalse({"A", "B"} <= stack.customers)
+                mixed += len(stack.customers) > 1
+        self.assertGreater(mixed, 0)
 
-    def test_two_containers_are_enough_where_two_sides_are_apart(self):
+    def test_customers_that_are_together_have_stacks_of_their_own(self):
+        for seed in range(50):
+            draw = random.Random(seed)
+            for stack in self.stacks(list(drawn_kinds(draw)), drawn_way(draw), together=True):
+                self.assertEqual(len({it.kind.customer for it in stack.crates}), 1)
+
+    def test_no_stack_is_heavier_than_a_container_may_carry(self):
         for seed in range(100):
             draw = random.Random(seed)
-            apart = apart_of(pair for pair in product("ABCD", "wxyz") if draw.random() < 0.5)
-            volumes = {it: draw.randint(1, 9) for it in "ABCDwxyz"}
-            self.assertLessEqual(len(list(self.opened(volumes, apart))), 2)
+            for stack in self.stacks(list(drawn_kinds(draw)), drawn_way(draw), payload=11):
+                self.assertLessEqual(sum(it.kind.weight for it in stack.crates), 11)
 
-    def test_without_pairs_nobody_is_kept_out(self):
-        self.assertEqual(closed_to({"A": 1, "B": 2}, {}), frozenset())
-        self.assertEqual(closed_to({}, apart_of([("A", "B")])), frozenset())
+    def test_a_stack_that_is_turned_about(self):
+        stack, = self.stacks([kind_of(0, (8, 6, 5)), kind_of(1, (4, 3, 9))])
+        turned = list(stack.at(10, 20, True))
+        self.assertEqual({(it.x, it.y, it.z) for it in turned}, {(10, 0, 20), (10, 5, 20)})
+        self.assertEqual(max(it.right for it in turned) - 10, stack.long)
+        self.assertEqual(max(it.front for it in turned) - 20, stack.wide)
+        self.assertTrue(all(it.turn in it.kind.turns for it in turned))
 
 
 if __name__ == "__main__":

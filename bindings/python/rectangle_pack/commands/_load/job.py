@@ -11,6 +11,8 @@ from decimal import Decimal
 from functools import cached_property
 from typing import NamedTuple
 
+from .._scale import Scale
+
 __all__ = ["FACES", "Container", "Job", "Kind", "Room", "Standing", "Turn", "turns_of"]
 
 # The faces of a crate that may be down: the one it stands on as it is listed, a long side, and the end of its length.
@@ -67,18 +69,14 @@ class Kind:
     line: int
     # Whether others may stand on it.
     is_stackable: bool = True
+    # That of one crate.
+    weight: int = 0
 
     @cached_property
     def volume(self) -> int:
         """That of one crate."""
         length, width, height = self.sizes
         return length * width * height
-
-    @cached_property
-    def rising(self) -> tuple[int, int, int]:
-        """The sides of one crate, the least first."""
-        least, middle, greatest = sorted(self.sizes)
-        return least, middle, greatest
 
 
 @dataclass(frozen=True)
@@ -90,6 +88,11 @@ class Container:
     count: int
     room: Room
     cost: Decimal = Decimal(0)
+    # What the crates in it may weigh, where there is a limit.
+    payload: int | None = None
+
+    def carries(self, weight: int) -> bool:
+        return self.payload is None or weight <= self.payload
 
 
 @dataclass(frozen=True)
@@ -101,21 +104,25 @@ class Job:
     containers: tuple[Container, ...]
     apart: Mapping[str, frozenset[str]]
     together: bool = False
-    # So many decimals do sizes have, and whether costs are told.
-    decimals: int = 0
+    # How sizes and weights are told, and whether costs and weights are.
+    scale: Scale = Scale()
+    weights: Scale = Scale()
     has_costs: bool = False
+    has_weights: bool = False
     unit: str = ""
+    weight_unit: str = ""
 
-    def told(self, size: int, power: int = 1) -> str:
-        """A size as the tables have it; an area or a volume, where power is 2 or 3."""
-        decimals = self.decimals * power
-        digits = str(size).rjust(decimals + 1, "0")
-        whole, part = digits[:len(digits) - decimals], digits[len(digits) - decimals:].rstrip("0")
-        return f"{whole}.{part}" if part else whole
+    def told(self, size: int) -> str:
+        """A size as the tables have it."""
+        return self.scale.text(size)
 
     def volume(self, size: int) -> str:
         """A volume with its unit: 729 cubic cm"""
-        return f"{self.told(size, 3)} cubic {self.unit or 'units'}"
+        return f"{Scale(3 * self.scale.decimals).text(size)} cubic {self.unit or 'units'}"
+
+    def weight(self, weight: int) -> str:
+        """A weight with its unit: 400 kg"""
+        return " ".join(filter(None, (self.weights.text(weight), self.weight_unit)))
 
     def sizes(self, kind: Kind) -> str:
         """Length, width and height of a crate: 120 x 80 x 105 cm"""

@@ -8,7 +8,7 @@ from pathlib import Path
 from .._common import write
 from .._folder import earlier_files, remove
 from .job import Job, Kind
-from .printing import AXES, HEAD, cells, counted, filled, stands_on, table
+from .printing import AXES, HEAD, cells, inside, stands_on, table
 from .report import LoadedContainer, Report
 
 __all__ = ["OURS", "plan_text", "write_plans"]
@@ -29,7 +29,7 @@ def _head(report: Report, number: int, it: LoadedContainer) -> list[str]:
     unit = f", in {job.unit}" if job.unit else ""
     return [
         f"Container {number} of {len(report.containers)}: {it.name}, {wide} wide, {high} high, {long} long{unit}",
-        f"{counted(len(it.steps), 'crate')}, {filled(it.filled)} filled, {job.told(it.length)} of the length in use"]
+        inside(job, it)]
 
 
 def _crates(job: Job, it: LoadedContainer) -> list[str]:

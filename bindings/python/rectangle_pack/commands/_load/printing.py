@@ -14,7 +14,7 @@ from .._scene import Step as SceneStep
 from .job import Job
 from .report import LoadedContainer, Report, Step
 
-__all__ = ["AXES", "HEAD", "as_csv", "as_json", "as_text", "cells", "counted", "percent", "scene_of", "stands_on", "table"]
+__all__ = ["AXES", "HEAD", "as_csv", "as_json", "as_text", "cells", "inside", "scene_of", "stands_on", "table"]
 
 HEAD = ("step", "crate", "customer", "x", "y", "z", "wide", "high", "long", "down", "on")
 
@@ -27,7 +27,7 @@ AXES = "x from the right wall, as one looks in at the door; y up from the floor;
 MOST_NAMED = 4
 
 
-def filled(part: Fraction) -> str:
+def _filled(part: Fraction) -> str:
     """As it is told: 76.1 %"""
     return filled_text(part.numerator, part.denominator)
 
@@ -36,10 +36,6 @@ def _percent(part: Fraction) -> int | float:
     """Percent with one decimal, rounded down as in the text."""
     tenths = part.numerator * 1000 // part.denominator
     return tenths / 10 if tenths % 10 else tenths // 10
-
-
-def _number(text: str) -> int | float:
-    return float(text) if "." in text else int(text)
 
 
 def _places(step: Step) -> dict[str, int]:
@@ -62,7 +58,7 @@ def table(rows: Sequence[Sequence[str]]) -> list[str]:
         for row in rows]
 
 
-def counted(count: int, what: str) -> str:
+def _counted(count: int, what: str) -> str:
     return f"{count} {what}" if count == 1 else f"{count} {what}s"
 
 
@@ -70,25 +66,44 @@ def stands_on(step: Step) -> str:
     """What a crate stands on, in short."""
     if not step.on:
         return "floor"
-    return " ".join(map(str, step.on)) if len(step.on) <= MOST_NAMED else counted(len(step.on), "crate")
+    return " ".join(map(str, step.on)) if len(step.on) <= MOST_NAMED else _counted(len(step.on), "crate")
+
+
+def inside(job: Job, it: LoadedContainer) -> str:
+    """How full a container is: 6 crates, 20.6 % filled, 200 of the length in use, 4800 of 21000 kg"""
+    words = [_counted(len(it.steps), "crate"), f"{_filled(it.filled)} filled", f"{job.told(it.length)} of the length in use"]
+    if job.has_weights:
+        limit = "" if it.container.payload is None else f" of {job.weights.text(it.container.payload)}"
+        words.append(f"{job.weights.text(it.weight)}{limit} {job.weight_unit or 'in weight'}")
+    return ", ".join(words)
 
 
 def _text_of(job: Job, it: LoadedContainer) -> str:
     wide, high, long = map(job.told, it.container.room)
-    head = (f"{it.name}: {wide} wide, {high} high, {long} long; {counted(len(it.steps), 'crate')}, "
-            f"{filled(it.filled)} filled, {job.told(it.length)} of the length in use")
+    head = f"{it.name}: {wide} wide, {high} high, {long} long; {inside(job, it)}"
     return "\n".join([head, "", *table([HEAD, *(cells(job, step, stands_on(step)) for step in it.steps)])])
+
+
+def _bound(report: Report) -> str:
+    """What is proved of all plans."""
+    if report.least is None:
+        return "no plan takes all crates: proved"
+    if report.is_proved:
+        return "no plan needs fewer containers: proved"
+    return f"all crates need at least {_counted(report.least, 'container')}: proved"
 
 
 def as_text(report: Report) -> str:
     """A table for each container, and the sums."""
     job = report.job
     costs = [f"cost {report.cost:f}"] if job.has_costs else []
+    weight = job.weights.text(sum(it.weight for it in report.containers))
+    weights = [f"{weight} {job.weight_unit or 'in weight'}"] if job.has_weights else []
     sums = [
-        counted(len(report.containers), "container"), *costs, counted(report.crates, "crate"),
-        f"{filled(report.filled)} filled"]
+        _counted(len(report.containers), "container"), *costs, _counted(report.crates, "crate"),
+        f"{_filled(report.filled)} filled", *weights]
     unit = f", in {job.unit}" if job.unit else ""
-    return "\n\n".join([AXES + unit, *(_text_of(job, it) for it in report.containers), ", ".join(sums)])
+    return "\n\n".join([AXES + unit, *(_text_of(job, it) for it in report.containers), f"{', '.join(sums)}\n{_bound(report)}"])
 
 
 def as_csv(report: Report) -> str:
@@ -102,20 +117,28 @@ def as_csv(report: Report) -> str:
     return text.getvalue()
 
 
+def _cost(job: Job, cost: Decimal) -> int | float | None:
+    text = f"{cost:f}"
+    return None if not job.has_costs else float(text) if "." in text else int(text)
+
+
 def _json_step(job: Job, step: Step) -> dict[str, Any]:
     kind = step.crate.kind
-    places = {name: _number(job.told(size)) for name, size in _places(step).items()}
+    places = {name: job.scale.number(size) for name, size in _places(step).items()}
     return {
         "step": step.number, "crate": kind.name, "line": kind.line, "piece": step.piece, "customer": kind.customer, **places,
         "down": step.crate.turn.down, "on": list(step.on)}
 
 
 def _json_container(job: Job, it: LoadedContainer) -> dict[str, Any]:
-    wide, high, long = (_number(job.told(side)) for side in it.container.room)
+    wide, high, long = map(job.scale.number, it.container.room)
+    payload = it.container.payload
     return {
         "name": it.name, "kind": it.container.name, "wide": wide, "high": high, "long": long,
-        "cost": _number(f"{it.container.cost:f}") if job.has_costs else None, "filled": _percent(it.filled),
-        "length_in_use": _number(job.told(it.length)), "steps": [_json_step(job, step) for step in it.steps]}
+        "cost": _cost(job, it.container.cost), "filled": _percent(it.filled),
+        "weight": job.weights.number(it.weight) if job.has_weights else None,
+        "payload": None if payload is None else job.weights.number(payload),
+        "length_in_use": job.scale.number(it.length), "steps": [_json_step(job, step) for step in it.steps]}
 
 
 def as_json(report: Report) -> dict[str, Any]:
@@ -123,16 +146,18 @@ def as_json(report: Report) -> dict[str, Any]:
     job = report.job
     apart = sorted({tuple(sorted((one, other))) for one, others in job.apart.items() for other in others})
     return {
-        "unit": job.unit, "together": job.together, "apart": [list(pair) for pair in apart],
-        "cost": _number(f"{report.cost:f}") if job.has_costs else None, "crates": report.crates,
+        "unit": job.unit, "weight_unit": job.weight_unit, "together": job.together, "apart": [list(pair) for pair in apart],
+        "cost": _cost(job, report.cost), "crates": report.crates, "least": report.least, "proved": report.is_proved,
+        "left": [
+            {"crate": kind.name, "line": kind.line, "count": count} for kind, count in zip(job.kinds, report.left) if count],
         "filled": _percent(report.filled), "containers": [_json_container(job, it) for it in report.containers]}
 
 
 def _cell_unit(job: Job) -> str:
     """What one cell of the scene is."""
-    if not job.decimals:
+    if not job.scale.decimals:
         return job.unit or "cells"
-    return f"{Decimal(1).scaleb(-job.decimals):f} {job.unit or 'units'}"
+    return f"{Decimal(1).scaleb(-job.scale.decimals):f} {job.unit or 'units'}"
 
 
 def scene_of(report: Report, title: str) -> Scene:
@@ -148,7 +173,7 @@ def scene_of(report: Report, title: str) -> Scene:
             item = Item(number, crate.kind.name, it.name, corner, crate.turn[:3], crate.kind.customer, note)
             steps.append(SceneStep(text, [item]))
     facts = [
-        ("containers", str(len(report.containers))), ("crates", str(report.crates)), ("filled", filled(report.filled)),
+        ("containers", str(len(report.containers))), ("crates", str(report.crates)), ("filled", _filled(report.filled)),
         *([("cost", f"{report.cost:f}")] if job.has_costs else [])]
     rooms = [Room(it.name, it.container.room) for it in report.containers]
     return Scene(title, rooms, steps, unit=_cell_unit(job), facts=facts)

@@ -7,10 +7,10 @@ import sys
 from collections.abc import Iterable, Sequence
 from dataclasses import dataclass
 from decimal import Decimal
-from fractions import Fraction
 from pathlib import Path
 
 from .._common import Wrong
+from .._scale import Scale
 from .._tables import MOST, Row, read_known
 from .job import FACES, Container, Job, Kind, Room, turns_of
 
@@ -30,7 +30,9 @@ class _Line:
     """A line of a table that has sizes, and these as they were read."""
 
     row: Row
-    sizes: tuple[Fraction, ...]
+    sizes: tuple[Decimal, ...]
+    # Where it has one: of a crate, or of all crates in a container.
+    weight: Decimal | None
 
 
 def _number(row: Row, column: str) -> Decimal:
@@ -42,30 +44,26 @@ def _number(row: Row, column: str) -> Decimal:
     return number
 
 
-def _decimals(value: Fraction) -> int:
-    """How many decimals a number has."""
-    return next(count for count in range(MOST_DECIMALS + 1) if (value * 10**count).denominator == 1)
+def _positive(row: Row, column: str) -> Decimal:
+    number = _number(row, column)
+    if number == 0:
+        raise row.wrong(f"{column} is {row.text(column)}, and must be more than 0")
+    return number
 
 
-def _lines(rows: Iterable[Row]) -> list[_Line]:
-    lines = []
-    for row in rows:
-        sizes = tuple(Fraction(_number(row, side)) for side in SIDES)
-        for side, size in zip(SIDES, sizes):
-            if size == 0:
-                raise row.wrong(f"{side} is {row.text(side)}, and must be more than 0")
-        lines.append(_Line(row, sizes))
-    return lines
+def _lines(rows: Iterable[Row], weight: str) -> list[_Line]:
+    return [
+        _Line(row, tuple(_positive(row, side) for side in SIDES), _number(row, weight) if row.text(weight, "") else None)
+        for row in rows]
 
 
-def _whole(line: _Line, decimals: int) -> tuple[int, int, int]:
+def _whole(line: _Line, scale: Scale) -> tuple[int, int, int]:
     """The sizes of a line as whole numbers."""
-    length, width, height = (int(size * 10**decimals) for size in line.sizes)
+    length, width, height = map(scale.cells, line.sizes)
     for side, size in zip(SIDES, (length, width, height)):
         if size > MOST:
-            why = f", as a size of the tables has {decimals} decimals" if decimals else ""
-            most = Decimal(MOST).scaleb(-decimals)
-            raise line.row.wrong(f"{side} is {line.row.text(side)}, and must be at most {most:f}{why}")
+            why = f", as a size of the tables has {scale.decimals} decimals" if scale.decimals else ""
+            raise line.row.wrong(f"{side} is {line.row.text(side)}, and must be at most {scale.text(MOST)}{why}")
     return length, width, height
 
 
@@ -87,7 +85,7 @@ def _faces(row: Row) -> tuple[str, ...]:
     return tuple(words)
 
 
-def _kinds(lines: Sequence[_Line], path: Path, decimals: int) -> tuple[Kind, ...]:
+def _kinds(lines: Sequence[_Line], path: Path, scale: Scale, weights: Scale) -> tuple[Kind, ...]:
     kinds, crates = [], 0
     for index, line in enumerate(lines):
         row = line.row
@@ -95,27 +93,30 @@ def _kinds(lines: Sequence[_Line], path: Path, decimals: int) -> tuple[Kind, ...
         crates += count
         if crates > MOST_CRATES:
             raise row.wrong(f"count is {count}, and so there are {crates} crates: at most {MOST_CRATES} can be loaded")
-        sizes = _whole(line, decimals)
+        sizes = _whole(line, scale)
         turns = turns_of(*sizes, _faces(row))
         is_stackable = row.choice("stackable", ("yes", "no"), "yes") == "yes"
         name, customer = _name(row.text("name")), _name(row.text("customer", ""))
-        kinds.append(Kind(index, name, customer, count, sizes, turns, row.line, is_stackable))
+        weight = weights.cells(line.weight or Decimal(0))
+        kinds.append(Kind(index, name, customer, count, sizes, turns, row.line, is_stackable, weight))
     if not crates:
         raise Wrong("lists no crates", path)
     return tuple(kinds)
 
 
-def _containers(lines: Sequence[_Line], path: Path, decimals: int, has_costs: bool) -> tuple[Container, ...]:
+def _containers(lines: Sequence[_Line], path: Path, scale: Scale, weights: Scale) -> tuple[Container, ...]:
     containers, names = [], dict[str, int]()
+    has_costs = _has(lines, "cost")
     for index, line in enumerate(lines):
         row = line.row
         name = _name(row.text("name"))
         if name in names:
             raise row.wrong(f"the name {name!r} is that of line {names[name]} too")
         names[name] = row.line
-        length, width, height = _whole(line, decimals)
+        length, width, height = _whole(line, scale)
         cost = _number(row, "cost") if has_costs else Decimal(0)
-        containers.append(Container(index, name, row.whole("count", default=1), Room(width, height, length), cost))
+        payload = None if line.weight is None else weights.cells(line.weight)
+        containers.append(Container(index, name, row.whole("count", default=1), Room(width, height, length), cost, payload))
     if not any(it.count for it in containers):
         raise Wrong("lists no containers", path)
     return tuple(containers)
@@ -160,18 +161,32 @@ def _apart(pairs: Iterable[tuple[str, str]]) -> dict[str, frozenset[str]]:
     return apart
 
 
+def _has(lines: Iterable[_Line], column: str) -> bool:
+    return any(line.row.text(column, "") for line in lines)
+
+
+def _check_weights(crates: Sequence[_Line], containers: Sequence[_Line]) -> None:
+    """Where a container has a limit each crate has a weight."""
+    limited = next((line.row for line in containers if line.weight is not None), None)
+    if limited is not None:
+        for line in crates:
+            if line.weight is None:
+                raise line.row.wrong(f"weight is missing, and {limited.path}:{limited.line} has a payload")
+
+
 def read_job(
     packing_list: Path, container_list: Path, *, apart: Sequence[str] = (), apart_list: Path | None = None,
-    together: bool = False, unit: str = "",
+    together: bool = False, units: tuple[str, str] = ("", ""),
 ) -> Job:
-    """What is to be loaded, as tables and words say it."""
-    optional = ("count", "customer", "down", "stackable")
-    crates = _lines(read_known(packing_list, ("name", *SIDES), optional))
-    rooms = _lines(read_known(container_list, ("name", *SIDES), ("count", "cost")))
-    has_costs = any(line.row.text("cost", "") for line in rooms)
-    decimals = max((_decimals(size) for line in (*crates, *rooms) for size in line.sizes), default=0)
-    kinds = _kinds(crates, packing_list, decimals)
-    containers = _containers(rooms, container_list, decimals, has_costs)
+    """What is to be loaded, as tables and words say it. The units are those of sizes and of weights."""
+    optional = ("count", "customer", "down", "stackable", "weight")
+    crates = _lines(read_known(packing_list, ("name", *SIDES), optional), "weight")
+    rooms = _lines(read_known(container_list, ("name", *SIDES), ("count", "cost", "payload")), "payload")
+    _check_weights(crates, rooms)
+    scale = Scale.of(size for line in (*crates, *rooms) for size in line.sizes)
+    weights = Scale.of(line.weight for line in (*crates, *rooms) if line.weight is not None)
+    kinds, containers = _kinds(crates, packing_list, scale, weights), _containers(rooms, container_list, scale, weights)
     customers = {kind.customer for kind in kinds} - {""}
     pairs = _said(apart, customers) + ([] if apart_list is None else _listed(apart_list, customers))
-    return Job(kinds, containers, _apart(pairs), together, decimals, has_costs, unit)
+    return Job(
+        kinds, containers, _apart(pairs), together, scale, weights, _has(rooms, "cost"), _has(crates, "weight"), *units)

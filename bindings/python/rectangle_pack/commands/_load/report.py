@@ -9,7 +9,8 @@ from fractions import Fraction
 
 from .job import Container, Job, Standing
 from .order import in_order
-from .search import Load, Loaded
+from .packing import Loaded
+from .search import Load
 
 __all__ = ["LoadedContainer", "Report", "Step", "report_of"]
 
@@ -32,6 +33,7 @@ class LoadedContainer:
     container: Container
     steps: tuple[Step, ...]
     volume: int
+    weight: int
     # How much of the length is in use, from the end wall.
     length: int
 
@@ -47,6 +49,15 @@ class Report:
     job: Job
     containers: tuple[LoadedContainer, ...]
     cost: Decimal
+    # How many crates of each kind are left over.
+    left: tuple[int, ...]
+    # How many containers are needed for all crates, whatever plan is made; None where no plan takes all.
+    least: int | None
+
+    @property
+    def is_proved(self) -> bool:
+        """Whether no plan takes all crates in fewer containers."""
+        return not any(self.left) and len(self.containers) == self.least
 
     @property
     def crates(self) -> int:
@@ -70,20 +81,21 @@ def _bearers(crates: Sequence[Standing]) -> Iterator[tuple[int, ...]]:
 
 
 def _steps(loaded: Loaded, pieces: Counter[int]) -> Iterator[Step]:
-    crates = in_order(loaded.filling.crates)
+    crates = in_order(loaded.crates)
     for number, (crate, on) in enumerate(zip(crates, _bearers(crates)), start=1):
         pieces[crate.kind.index] += 1
         yield Step(number, pieces[crate.kind.index], crate, on)
 
 
-def report_of(load: Load) -> Report:
+def report_of(load: Load, least: int | None) -> Report:
     """What is said of a load. Of several equal containers each gets a number. Raises NoOrder."""
     used: Counter[int] = Counter()
     pieces: Counter[int] = Counter()
     containers = []
     for loaded in load.containers:
-        it, filling = loaded.container, loaded.filling
+        it = loaded.container
         used[it.index] += 1
         name = it.name if it.count == 1 else f"{it.name} {used[it.index]}"
-        containers.append(LoadedContainer(name, it, tuple(_steps(loaded, pieces)), filling.volume, filling.length))
-    return Report(load.job, tuple(containers), load.cost)
+        steps = tuple(_steps(loaded, pieces))
+        containers.append(LoadedContainer(name, it, steps, loaded.volume, loaded.weight, loaded.length))
+    return Report(load.job, tuple(containers), load.cost, load.left, least)

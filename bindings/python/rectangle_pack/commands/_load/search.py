@@ -1,171 +1,153 @@
-"""Which containers are taken, and what goes into each: the cheapest load that is found in so many tries."""
+"""Which containers are taken, and what goes into each: the cheapest load that is found in so many tries. In each try crates are
+stacked in another way, and the library's search places the stacks: first all of them, then those of some containers again."""
 from __future__ import annotations
 
+import random
+import time
 from collections import Counter
 from collections.abc import Sequence
 from dataclasses import dataclass
 from decimal import Decimal
 from functools import cached_property
+from itertools import islice, product
+from typing import TypeVar
 
+from ... import Progress
 from .._common import progress
-from .customers import closed_to
-from .filling import Filler, Filling, Trial
-from .fleets import Fleet, Price, cheaper, fleets_of, price_of
-from .job import Container, Job, Room
-from .ways import ways_of
+from .bound import least_containers
+from .job import Job
+from .packing import Loaded, Lots, Price, loaded_of, price_of, shortened
+from .stacks import ORDERS, TURNINGS, WAYS, Way, stacks_of
 
-__all__ = ["Load", "Loaded", "best_load"]
+__all__ = ["Load", "Search"]
 
-# So many tries at most has each container at first, as long as it is open which fleet is the best.
-FIRST_EFFORT = 12
+_Item = TypeVar("_Item")
 
-# In place of so many containers others are looked for.
-TAIL = 4
+# So many tries has the library's search for all stacks, and for those of some containers.
+_OF_ALL, _OF_SOME = 600, 300
 
-# How many crates of each kind are left.
-Left = tuple[int, ...]
-
-
-@dataclass(frozen=True)
-class Loaded:
-    """A container, and what stands in it."""
-
-    container: Container
-    filling: Filling
+# In so many heights at most all crates are stacked.
+_MOST_HEIGHTS = 3
 
 
 @dataclass(frozen=True)
 class Load:
-    """The containers that are loaded, in the order in which they were filled, and what is left over."""
+    """The containers that are loaded."""
 
     job: Job
     containers: tuple[Loaded, ...]
-    left: Left
+
+    @cached_property
+    def left(self) -> tuple[int, ...]:
+        """How many crates of each kind are left over."""
+        inside = Counter(crate.kind.index for it in self.containers for placed in it.placed for crate in placed.stack.crates)
+        return tuple(kind.count - inside[kind.index] for kind in self.job.kinds)
 
     @cached_property
     def price(self) -> Price:
-        return price_of([it.container for it in self.containers])
+        return price_of(it.container for it in self.containers)
 
     @cached_property
-    def rank(self) -> tuple[int, Price, int]:
-        """What is less is better: the volume that is left over, the price, and how much of the containers' length is in use."""
-        over = sum(kind.volume * count for kind, count in zip(self.job.kinds, self.left))
-        return over, self.price, sum(it.filling.length for it in self.containers)
+    def over(self) -> int:
+        """The volume of what is left over."""
+        return sum(kind.volume * count for kind, count in zip(self.job.kinds, self.left))
+
+    @cached_property
+    def rank(self) -> tuple[int, Price, float]:
+        """What is less is better. Where some containers are fuller than others one is nearer to one less."""
+        return self.over, self.price, -sum(it.part**2 for it in self.containers)
 
     @property
     def cost(self) -> Decimal:
         return self.price[0]
 
 
-class _Tries:
-    """So many tries, of which some may be kept for later."""
+class Search:
+    """A search for the cheapest load, of so many tries and so many seconds at most. best is the best load so far."""
 
-    def __init__(self, count: int) -> None:
-        self._bar = progress(range(count), count, "loading")
-        self.left = count
-        self.kept = 0
+    def __init__(self, job: Job, tries: int, seconds: float | None = None) -> None:
+        self._job, self._tries = job, tries
+        self._end = None if seconds is None else time.monotonic() + seconds
+        self._chance = random.Random(1)
+        self.best = Load(job, ())
+        self.least = least_containers(job)
 
-    def take(self) -> bool:
-        if self.left <= self.kept:
+    def run(self) -> None:
+        """Makes the tries."""
+        lots = [(it, it.count) for it in self._job.containers if it.count]
+        heights = sorted({it.room.high for it, _ in lots}, reverse=True)[:_MOST_HEIGHTS]
+        first = list(product(WAYS, heights))
+        now = self.best
+        everything = now.left
+        for number in progress(range(self._tries), self._tries, "loading"):
+            if self._is_over():
+                break
+            if number < len(first):
+                loaded = self._loaded(everything, lots, *first[number], _OF_ALL)
+                now = min(now, Load(self._job, tuple(loaded)), key=lambda it: it.rank)
+            else:
+                now = self._changed(now)
+            self.best = min(self.best, now, key=lambda it: it.rank)
+
+    def _is_over(self) -> bool:
+        """Whether the time is up, or nothing is cheaper than the best load."""
+        if self._end is not None and time.monotonic() > self._end:
+            return True
+        if self.least is None or any(self.best.left):
             return False
-        self.left -= 1
-        next(self._bar)
-        return True
+        containers = [it for it in self._job.containers if it.count]
+        least = self.least * min(it.cost for it in containers), self.least, self.least * min(it.room.volume for it in containers)
+        return self.best.price <= least
 
-    def end(self) -> None:
-        for _ in self._bar:
-            pass
+    def _asked(self, _: Progress) -> bool:
+        return self._end is None or time.monotonic() < self._end
 
+    def _loaded(self, counts: Sequence[int], lots: Lots, way: Way, target: int, tries: int) -> list[Loaded]:
+        """Containers with so many crates of each kind, stacked in a way."""
+        stacks = stacks_of(self._job, counts, way, [it for it, count in lots if count], target)
+        return loaded_of(self._job, stacks, lots, tries, self._chance.getrandbits(32), self._asked)[0]
 
-class _Loader:
-    def __init__(self, job: Job, tries: int) -> None:
-        self._job = job
-        self.tries = _Tries(tries)
-        self._fillers = [Filler(job, way) for way in ways_of(job.kinds)]
-        # What was tried is not tried again.
-        self._trials: dict[tuple[Room, Left, frozenset[str]], Trial] = {}
+    def _way(self) -> Way:
+        """A way by chance. Most often crates are stacked one by one."""
+        one_of, chance = self._one_of, self._chance.random
+        side_by_side = chance() < 0.3
+        return Way(
+            one_of(list(TURNINGS)), one_of(list(ORDERS)), one_of(list(ORDERS)), side_by_side and chance() < 0.6,
+            side_by_side and chance() < 0.6, one_of((0.0, 0.1, 0.3, 1.0)), self._chance.getrandbits(32))
 
-    def _filling(self, room: Room, left: Left, closed: frozenset[str], effort: int) -> Filling:
-        """The best filling of a container, after so many tries; after one at least."""
-        key = room, left, closed
-        if key not in self._trials:
-            self._trials[key] = Trial(self._job, self._fillers, *key)
-        trial = self._trials[key]
-        while trial.count < effort and not trial.is_over and (self.tries.take() or not trial.count):
-            trial.go_on()
-        return trial.best
+    def _one_of(self, choices: Sequence[_Item]) -> _Item:
+        return choices[int(self._chance.random() * len(choices))]
 
-    def _closed(self, left: Left) -> frozenset[str]:
-        """The customers that a container is closed to which is opened for those of one colour."""
-        volumes: dict[str, int] = {}
-        for kind, count in zip(self._job.kinds, left):
-            if count and kind.customer:
-                volumes[kind.customer] = volumes.get(kind.customer, 0) + kind.volume * count
-        return closed_to(volumes, self._job.apart)
+    def _some(self, load: Load) -> list[Loaded]:
+        """Two to four containers, of which one is an emptier one."""
+        containers = list(load.containers)
+        self._chance.shuffle(containers)
+        emptier = min(containers[:self._one_of((2, 4, len(containers)))], key=lambda it: it.part, default=None)
+        others = (it for it in containers if it is not emptier)
+        return [emptier, *islice(others, self._one_of((1, 1, 2, 3)))] if emptier else []
 
-    def _next(self, container: Container, left: Left, by_colours: bool, effort: int) -> Filling:
-        """What goes into a container of what is left."""
-        if by_colours:
-            filling = self._filling(container.room, left, self._closed(left), effort)
-            if filling.crates:
-                return filling
-        return self._filling(container.room, left, frozenset(), effort)
+    def _offered(self, left: Sequence[int], counts: Sequence[int]) -> list[int]:
+        """Of these crates all that stand somewhere, and of those that are left over some lines, or some customers where these are
+        kept together: so what is large does not keep out what is small."""
+        units = [kind.customer if self._job.together and kind.customer else kind.index for kind in self._job.kinds]
+        over = dict.fromkeys(unit for unit, count in zip(units, left) if count)
+        out = {unit for unit in over if self._chance.random() < 0.5}
+        return [count - over_count if unit in out else count for unit, count, over_count in zip(units, counts, left)]
 
-    def load(self, fleet: Fleet, left: Left, effort: int) -> Load:
-        """Fills one container of a fleet after the other, until nothing is left."""
-        loaded: list[Loaded] = []
-        for container, count in fleet.lots:
-            for _ in range(count):
-                filling = self._next(container, left, fleet.by_colours, effort) if any(left) else Filling()
-                if not filling.crates:
-                    break
-                loaded.append(Loaded(container, filling))
-                left = filling.left(left)
-        return Load(self._job, tuple(loaded), left)
+    def _changed(self, now: Load) -> Load:
+        """The load with some containers loaded anew, where that is not worse."""
+        some = self._some(now)
+        kept = [it for it in now.containers if not any(it is other for other in some)]
+        taken = Counter(it.container for it in kept)
+        lots = [(it, min(it.count - taken[it], len(some) + any(now.left))) for it in self._job.containers]
+        counts = self._offered(now.left, Load(self._job, tuple(kept)).left)
+        target = self._one_of([it.room.high for it, count in lots if count])
+        loaded = self._loaded(counts, lots, self._way(), target, _OF_SOME)
+        found = Load(self._job, (*kept, *loaded))
+        # A little worse, so that the search can leave where it stands.
+        is_good = (found.over, found.price) < (now.over, now.price) or found.rank <= (now.over, now.price, now.rank[2] + 0.01)
+        return found if is_good else now
 
-    def _cheaper(self, load: Load, by_colours: bool, effort: int) -> Load | None:
-        """The load, with what stands in the last containers in cheaper ones; or None where none are found."""
-        for count in range(1, min(len(load.containers), TAIL) + 1):
-            kept, tail = load.containers[:-count], load.containers[-count:]
-            crates = Counter(crate.kind.index for it in tail for crate in it.filling.crates)
-            left = tuple(crates[kind.index] for kind in self._job.kinds)
-            volume = sum(it.filling.volume for it in tail)
-            for lots in cheaper(self._job, [it.container for it in tail], [it.container for it in kept], volume):
-                if not self.tries.left:
-                    return None
-                attempt = self.load(Fleet(tuple(lots.items()), by_colours), left, effort)
-                if not any(attempt.left):
-                    return Load(self._job, kept + attempt.containers, load.left)
-        return None
-
-    def cheapest(self, load: Load, by_colours: bool, effort: int) -> Load:
-        """The load, made cheaper as long as that is found."""
-        while not any(load.left) and (better := self._cheaper(load, by_colours, effort)):
-            load = better
-        return load
-
-
-def _first(loader: _Loader, fleets: Sequence[Fleet], everything: Left) -> tuple[Load, Fleet]:
-    """The best load of some tries with each fleet, and which fleet that is."""
-    # A half is kept for the best one.
-    loader.tries.kept = loader.tries.left // 2
-    share = loader.tries.left // (4 * len(fleets))
-    loads = []
-    for fleet in fleets:
-        count = len(loader.load(fleet, everything, 1).containers)
-        loads.append((loader.load(fleet, everything, max(1, min(share // max(count, 1), FIRST_EFFORT))), fleet))
-    loader.tries.kept = 0
-    return min(loads, key=lambda it: it[0].rank)
-
-
-def best_load(job: Job, tries: int) -> Load:
-    """The best load that is found, with more and more tries for each container, until they are used up."""
-    loader, everything = _Loader(job, tries), tuple(kind.count for kind in job.kinds)
-    best, fleet = _first(loader, fleets_of(job), everything)
-    effort = 2
-    while loader.tries.left and effort < 2 * tries:
-        best = loader.cheapest(best, fleet.by_colours, effort)
-        effort *= 2
-        best = min(best, loader.load(fleet, everything, effort), key=lambda it: it.rank)
-    loader.tries.end()
-    return best
+    def short(self) -> Load:
+        """The best load, in which each container has its crates as near to the end wall as is found."""
+        return Load(self._job, tuple(shortened(it, _OF_SOME) for it in self.best.containers))

@@ -1,0 +1,246 @@
+"""Stacks: crates on each other. Each crate stands with its whole bottom on the floor, or on equal crates side by side."""
+from __future__ import annotations
+
+import random
+from collections.abc import Callable, Iterator, Sequence
+from functools import cached_property
+from typing import NamedTuple
+
+from .job import Container, Job, Kind, Room, Standing, Turn
+
+__all__ = ["WAYS", "Stack", "Way", "stacks_of"]
+
+# More than all crates weigh.
+_NO_LIMIT = 10**60
+
+
+def _rows(side: int, whole: int) -> int:
+    """How much of a side is taken by as many equal crates as fit along it."""
+    return whole - whole % side
+
+
+# Which face is down. What is less is better.
+TURNINGS: dict[str, Callable[[Turn, Room], tuple[int, ...]]] = {
+    "filling the height": lambda turn, room: (-_rows(turn.high, room.high), turn.high),
+    "in walls": lambda turn, room: (-_rows(turn.wide, room.wide) * _rows(turn.high, room.high), turn.long),
+    "flat": lambda turn, room: (turn.high, -turn.wide),
+    "standing": lambda turn, room: (-turn.high, turn.wide * turn.long),
+}
+
+# What goes first, below or on a top. What is more is better.
+ORDERS: dict[str, Callable[[Turn], int]] = {
+    "bottom": lambda turn: turn.wide * turn.long,
+    "volume": lambda turn: turn.wide * turn.high * turn.long,
+    "height": lambda turn: turn.high,
+    "longest side": lambda turn: max(turn.wide, turn.long),
+}
+
+
+class Way(NamedTuple):
+    """How stacks are made: which face is down, what goes below first, what on a top, and whether equal crates go side by side
+    across the container and along it."""
+
+    turning: str
+    below: str
+    on: str
+    across: bool = False
+    along: bool = False
+    # By so much of itself a rate may be more by chance.
+    noise: float = 0.0
+    seed: int = 0
+
+
+# The first ones are tried with all crates.
+WAYS = (
+    Way("filling the height", "bottom", "bottom"),
+    Way("in walls", "volume", "volume", across=True),
+    Way("in walls", "bottom", "bottom", across=True, along=True),
+    Way("flat", "volume", "bottom", along=True),
+    Way("filling the height", "longest side", "volume"),
+    Way("standing", "height", "height"),
+)
+
+
+class Stack:
+    """Crates on each other, with their places from the corner of the stack on."""
+
+    def __init__(self, crates: Sequence[Standing]) -> None:
+        self.crates = crates
+        self.wide, self.high, self.long = (max(ends) for ends in zip(*((it.right, it.top, it.front) for it in crates)))
+        self.volume = sum(it.kind.volume for it in crates)
+        self.weight = sum(it.kind.weight for it in crates)
+
+    @cached_property
+    def customers(self) -> frozenset[str]:
+        return frozenset(it.kind.customer for it in self.crates) - {""}
+
+    def at(self, x: int, z: int, is_turned: bool) -> Iterator[Standing]:
+        """The crates where the stack stands at this place, turned about or as it is."""
+        for it in self.crates:
+            if is_turned:
+                wide, high, long, down = it.turn
+                yield Standing(it.kind, x + it.z, it.y, z + it.x, Turn(long, high, wide, down))
+            else:
+                yield it._replace(x=x + it.x, z=z + it.z)
+
+
+class _Area(NamedTuple):
+    """A part of the floor or of a top: its corner, and the room above it."""
+
+    x: int
+    y: int
+    z: int
+    wide: int
+    high: int
+    long: int
+
+
+class _Option(NamedTuple):
+    """A kind with one of its faces down: the sides of this, the shorter one first, the height, and its rate."""
+
+    short: int
+    long: int
+    high: int
+    kind: Kind
+    turn: Turn
+    rate: float
+
+
+class _Builder:
+    """Makes stacks of crates, of each kind so many, for some of these containers."""
+
+    def __init__(self, job: Job, left: Sequence[int], way: Way, containers: Sequence[Container]) -> None:
+        self._apart, self._left, self._way = job.apart, list(left), way
+        self._chance = random.Random(way.seed)
+        self._rooms = [it.room for it in containers]
+        self._payloads = sorted(_NO_LIMIT if it.payload is None else it.payload for it in containers)
+        kinds = [kind for kind in job.kinds if left[kind.index] and kind.weight <= self._payloads[-1]]
+        rated = sorted((self._option(*it, way.on) for it in self._turns(kinds)), key=lambda it: it.rate, reverse=True)
+        # What bears others, and what bears nothing and so is the last of its stack.
+        self._bearers = [it for it in rated if it.kind.is_stackable]
+        self._lasts = [it for it in rated if not it.kind.is_stackable]
+        # Of the stack that is made: its crates, the tops that are free, what it may still weigh, and the customer from whom others
+        # are apart.
+        self._crates: list[Standing] = []
+        self._areas: list[_Area] = []
+        self._carried, self._mine = 0, ""
+
+    def _turns(self, kinds: Sequence[Kind]) -> Iterator[tuple[Kind, Turn]]:
+        """The kinds with each face down that they may have, across or along the containers, where some container takes them so."""
+        for kind in kinds:
+            faces = {turn.down: turn for turn in kind.turns if any(map(turn.fits, self._rooms))}
+            yield from ((kind, turn) for turn in faces.values())
+
+    def _option(self, kind: Kind, turn: Turn, order: str) -> _Option:
+        rate = ORDERS[order](turn) * (1 + self._way.noise * self._chance.random())
+        return _Option(min(turn.wide, turn.long), max(turn.wide, turn.long), turn.high, kind, turn, rate)
+
+    def _room(self, turn: Turn, target: int) -> Room | None:
+        """Of the containers that take a crate the lowest that is as high as this, or else the highest."""
+        rooms = [room for room in self._rooms if turn.fits(room)]
+        enough = [room for room in rooms if room.high >= target]
+        return min(enough, key=_high) if enough else max(rooms, key=_high) if rooms else None
+
+    def _bases(self, target: int) -> list[tuple[_Option, Room]]:
+        """What goes on the floor, each kind as it is turned there, with the room for its stack; what goes first first."""
+        bases = []
+        choices: dict[Kind, list[tuple[Turn, Room]]] = {}
+        for kind in dict.fromkeys(it.kind for it in (*self._bearers, *self._lasts)):
+            choices[kind] = [(turn, room) for turn in kind.turns if (room := self._room(turn, target))]
+        for kind, turns in choices.items():
+            turn, room = min(turns, key=lambda it: TURNINGS[self._way.turning](*it))
+            bases.append((self._option(kind, turn, self._way.below), room))
+        return sorted(bases, key=lambda it: (it[0].kind.is_stackable, it[0].rate), reverse=True)
+
+    def stacks(self, target: int) -> Iterator[Stack]:
+        """All crates in stacks, for containers as high as this where that can be."""
+        for base, room in self._bases(target):
+            while self._left[base.kind.index]:
+                yield self._stack(base, room)
+            self._bearers = [it for it in self._bearers if self._left[it.kind.index]]
+            self._lasts = [it for it in self._lasts if self._left[it.kind.index]]
+
+    def _stack(self, base: _Option, room: Room) -> Stack:
+        self._crates, self._areas, self._mine = [], [], ""
+        # No more than the container with the least payload carries that carries the lowest crate.
+        self._carried = next(it for it in self._payloads if it >= base.kind.weight)
+        turn = base.turn
+        across = room.wide // turn.wide if self._way.across else 1
+        along = room.long // turn.long if self._way.along else 1
+        self._stand(base.kind, turn, _Area(0, 0, 0, across * turn.wide, room.high, along * turn.long), False)
+        while self._areas:
+            area = self._areas.pop()
+            option = self._best(area)
+            if option:
+                self._stand(option.kind, _laid(option.turn, area), area, True)
+        return Stack(self._crates)
+
+    def _best(self, area: _Area) -> _Option | None:
+        """What goes on an area first: what bears others, as long as there is room on it for what bears nothing."""
+        last = self._first(self._lasts, area, area.high)
+        bearer = self._first(self._bearers, area, area.high - last.high if last else area.high)
+        return bearer or last
+
+    def _first(self, options: Sequence[_Option], area: _Area, most: int) -> _Option | None:
+        """The first of these that fits on an area, and is no higher than this."""
+        least, greatest = min(area.wide, area.long), max(area.wide, area.long)
+        for it in options:
+            short, long, high, kind, _, _ = it
+            if long <= greatest and high <= most and short <= least and self._may(kind):
+                return it
+        return None
+
+    def _may(self, kind: Kind) -> bool:
+        """Whether a crate of this kind may go on the stack."""
+        is_free = self._left[kind.index] > 0 and kind.weight <= self._carried
+        return is_free and (self._mine in ("", kind.customer) or kind.customer not in self._apart)
+
+    def _stand(self, kind: Kind, it: Turn, area: _Area, is_filled: bool) -> None:
+        """Stands equal crates side by side on an area, as many as can be. Their top, and what is free beside them, are filled later:
+        the top first."""
+        count = self._left[kind.index]
+        if kind.weight:
+            count = min(count, self._carried // kind.weight)
+        across = min(area.wide // it.wide, count)
+        along = min(area.long // it.long, count // across)
+        self._left[kind.index] -= across * along
+        self._carried -= kind.weight * across * along
+        self._mine = kind.customer if kind.customer in self._apart else self._mine
+        self._crates += [
+            Standing(kind, area.x + it.wide * one, area.y, area.z + it.long * other, it)
+            for other in range(along) for one in range(across)]
+        wide, long = across * it.wide, along * it.long
+        if is_filled:
+            self._areas += _beside(area, wide, long)
+        if kind.is_stackable:
+            self._areas.append(_Area(area.x, area.y + it.high, area.z, wide, area.high - it.high, long))
+
+
+def _high(room: Room) -> int:
+    return room.high
+
+
+def _laid(turn: Turn, area: _Area) -> Turn:
+    """A crate across an area or along it, so that more of them fit side by side."""
+    other = turn._replace(wide=turn.long, long=turn.wide)
+    return max(turn, other, key=lambda it: (area.wide // it.wide) * (area.long // it.long))
+
+
+def _beside(area: _Area, wide: int, long: int) -> list[_Area]:
+    """What is free of an area beside crates that take so much of it, in two parts, of which one is as large as it can be."""
+    right, front = area.wide - wide, area.long - long
+    is_long = right * area.long > front * area.wide
+    return [
+        area._replace(x=area.x + wide, wide=right, long=area.long if is_long else long),
+        area._replace(z=area.z + long, long=front, wide=wide if is_long else area.wide)]
+
+
+def stacks_of(job: Job, left: Sequence[int], way: Way, containers: Sequence[Container], target: int) -> list[Stack]:
+    """So many crates of each kind in stacks, made in a way, as high as this where some of the containers are as high. Where
+    customers are kept together a stack has crates of one."""
+    parts = [left]
+    if job.together:
+        customers = dict.fromkeys(kind.customer for kind in job.kinds if left[kind.index])
+        parts = [[count if kind.customer == it else 0 for kind, count in zip(job.kinds, left)] for it in customers]
+    stacks = (stack for part in parts for stack in _Builder(job, part, way, containers).stacks(target))
+    return sorted(stacks, key=lambda it: it.volume, reverse=True)
