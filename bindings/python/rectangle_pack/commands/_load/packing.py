@@ -177,7 +177,7 @@ def loaded_of(
 def shortened(loaded: Loaded, tries: int) -> Loaded:
     """The same stacks in as little of the length as is found, to a hundredth of the container's."""
     room, stacks = loaded.container.room, [it.stack for it in loaded.placed]
-    short = max(sum(it.wide * it.long for it in stacks) // room.wide, 1) - 1
+    short = max(sum(it.floor for it in stacks) // room.wide, 1) - 1
     while loaded.length - short > max(room.long // 100, 1):
         middle = (short + loaded.length) // 2
         packing = pack([Bin(room.wide, 1, middle)], [Box(it.wide, 1, it.long) for it in stacks], partial=True, tries=tries, turn="upright")

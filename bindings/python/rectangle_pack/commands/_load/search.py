@@ -9,7 +9,7 @@ from collections.abc import Sequence
 from dataclasses import dataclass
 from decimal import Decimal
 from functools import cached_property
-from itertools import islice, product
+from itertools import islice
 from typing import TypeVar
 
 from ... import Progress
@@ -17,7 +17,7 @@ from .._common import progress
 from .bound import least_containers
 from .job import Job
 from .packing import Loaded, Lots, Price, loaded_of, price_of, shortened
-from .stacks import ORDERS, TURNINGS, WAYS, Way, stacks_of
+from .stacks import ORDERS, TURNINGS, WAYS, Stack, Way, stacks_of
 
 __all__ = ["Load", "Search"]
 
@@ -26,8 +26,8 @@ _Item = TypeVar("_Item")
 # So many tries has the library's search for all stacks, and for those of some containers.
 _OF_ALL, _OF_SOME = 600, 300
 
-# In so many heights at most all crates are stacked.
-_MOST_HEIGHTS = 3
+# In so many heights, and in each in so many ways, all crates are stacked at most.
+_MOST_HEIGHTS, _MOST_WAYS = 3, 2
 
 
 @dataclass(frozen=True)
@@ -76,15 +76,13 @@ class Search:
         """Makes the tries."""
         lots = [(it, it.count) for it in self._job.containers if it.count]
         heights = sorted({it.room.high for it, _ in lots}, reverse=True)[:_MOST_HEIGHTS]
-        first = list(product(WAYS, heights))
+        first = [stacks for high in heights for stacks in self._first(lots, high)]
         now = self.best
-        everything = now.left
         for number in progress(range(self._tries), self._tries, "loading"):
             if self._is_over():
                 break
             if number < len(first):
-                loaded = self._loaded(everything, lots, *first[number], _OF_ALL)
-                now = min(now, Load(self._job, tuple(loaded)), key=lambda it: it.rank)
+                now = min(now, Load(self._job, tuple(self._loaded(first[number], lots, _OF_ALL))), key=lambda it: it.rank)
             else:
                 now = self._changed(now)
             self.best = min(self.best, now, key=lambda it: it.rank)
@@ -102,9 +100,15 @@ class Search:
     def _asked(self, _: Progress) -> bool:
         return self._end is None or time.monotonic() < self._end
 
-    def _loaded(self, counts: Sequence[int], lots: Lots, way: Way, target: int, tries: int) -> list[Loaded]:
-        """Containers with so many crates of each kind, stacked in a way."""
-        stacks = stacks_of(self._job, counts, way, [it for it, count in lots if count], target)
+    def _first(self, lots: Lots, high: int) -> list[list[Stack]]:
+        """All crates in stacks, as high as this where they can be: in the ways that take the least of the floors."""
+        made = (self._stacks(self.best.left, lots, way, high) for way in WAYS)
+        return sorted(made, key=lambda stacks: sum(it.floor for it in stacks))[:_MOST_WAYS]
+
+    def _stacks(self, counts: Sequence[int], lots: Lots, way: Way, high: int) -> list[Stack]:
+        return stacks_of(self._job, counts, way, [it for it, count in lots if count], high)
+
+    def _loaded(self, stacks: Sequence[Stack], lots: Lots, tries: int) -> list[Loaded]:
         return loaded_of(self._job, stacks, lots, tries, self._chance.getrandbits(32), self._asked)[0]
 
     def _way(self) -> Way:
@@ -142,7 +146,7 @@ class Search:
         lots = [(it, min(it.count - taken[it], len(some) + any(now.left))) for it in self._job.containers]
         counts = self._offered(now.left, Load(self._job, tuple(kept)).left)
         target = self._one_of([it.room.high for it, count in lots if count])
-        loaded = self._loaded(counts, lots, self._way(), target, _OF_SOME)
+        loaded = self._loaded(self._stacks(counts, lots, self._way(), target), lots, _OF_SOME)
         found = Load(self._job, (*kept, *loaded))
         # A little worse, so that the search can leave where it stands.
         is_good = (found.over, found.price) < (now.over, now.price) or found.rank <= (now.over, now.price, now.rank[2] + 0.01)

@@ -50,14 +50,13 @@ class Way(NamedTuple):
     seed: int = 0
 
 
-# The first ones are tried with all crates.
+# What all crates are stacked in at first.
 WAYS = (
+    Way("standing", "bottom", "bottom"),
     Way("filling the height", "bottom", "bottom"),
     Way("in walls", "volume", "volume", across=True),
     Way("in walls", "bottom", "bottom", across=True, along=True),
     Way("flat", "volume", "bottom", along=True),
-    Way("filling the height", "longest side", "volume"),
-    Way("standing", "height", "height"),
 )
 
 
@@ -69,6 +68,12 @@ class Stack:
         self.wide, self.high, self.long = (max(ends) for ends in zip(*((it.right, it.top, it.front) for it in crates)))
         self.volume = sum(it.kind.volume for it in crates)
         self.weight = sum(it.kind.weight for it in crates)
+
+    @property
+    def floor(self) -> int:
+        """How much of a floor it takes."""
+        area: int = self.wide * self.long
+        return area
 
     @cached_property
     def customers(self) -> frozenset[str]:
@@ -119,6 +124,7 @@ class _Builder:
         # What bears others, and what bears nothing and so is the last of its stack.
         self._bearers = [it for it in rated if it.kind.is_stackable]
         self._lasts = [it for it in rated if not it.kind.is_stackable]
+        self._leave_out()
         # Of the stack that is made: its crates, the tops that are free, what it may still weigh, and the customer from whom others
         # are apart.
         self._crates: list[Standing] = []
@@ -157,8 +163,13 @@ class _Builder:
         for base, room in self._bases(target):
             while self._left[base.kind.index]:
                 yield self._stack(base, room)
-            self._bearers = [it for it in self._bearers if self._left[it.kind.index]]
-            self._lasts = [it for it in self._lasts if self._left[it.kind.index]]
+            self._leave_out()
+
+    def _leave_out(self) -> None:
+        """Leaves out what is used up, and notes what no side is less than of all that is left."""
+        self._bearers, self._lasts = (
+            [it for it in options if self._left[it.kind.index]] for options in (self._bearers, self._lasts))
+        self._least = [min(sides) for sides in list(zip(*self._bearers, *self._lasts))[:3]]
 
     def _stack(self, base: _Option, room: Room) -> Stack:
         self._crates, self._areas, self._mine = [], [], ""
@@ -184,6 +195,8 @@ class _Builder:
     def _first(self, options: Sequence[_Option], area: _Area, most: int) -> _Option | None:
         """The first of these that fits on an area, and is no higher than this."""
         least, greatest = min(area.wide, area.long), max(area.wide, area.long)
+        if least < self._least[0] or greatest < self._least[1] or most < self._least[2]:
+            return None
         for it in options:
             short, long, high, kind, _, _ = it
             if long <= greatest and high <= most and short <= least and self._may(kind):
