@@ -9,7 +9,8 @@ from .test_load_base import LoadCase
 from rectangle_pack.commands._common import NoRoom
 from rectangle_pack.commands._load.job import FACES, Container, Job, Kind, Room, Standing, Turn, turns_of
 from rectangle_pack.commands._load.order import NoOrder, in_order
-from rectangle_pack.commands._load.stacks import ORDERS, TURNINGS, WAYS, Way, stacks_of
+from rectangle_pack.commands._load.stacks import stacks_of
+from rectangle_pack.commands._load.ways import ORDERS, TURNINGS, WAYS, Way
 
 
 def standing(name, low, high):

@@ -17,7 +17,8 @@ from .._common import progress
 from .bound import least_containers
 from .job import Job
 from .packing import Loaded, Lots, Price, loaded_of, price_of, shortened
-from .stacks import ORDERS, TURNINGS, WAYS, Stack, Way, stacks_of
+from .stacks import Stack, stacks_of
+from .ways import ORDERS, TURNINGS, WAYS, Way
 
 __all__ = ["Load", "Search"]
 

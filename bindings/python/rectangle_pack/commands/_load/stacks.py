@@ -2,62 +2,17 @@
 from __future__ import annotations
 
 import random
-from collections.abc import Callable, Iterator, Sequence
+from collections.abc import Iterator, Sequence
 from functools import cached_property
 from typing import NamedTuple
 
 from .job import Container, Job, Kind, Room, Standing, Turn
+from .ways import ORDERS, TURNINGS, Way
 
-__all__ = ["WAYS", "Stack", "Way", "stacks_of"]
+__all__ = ["Stack", "stacks_of"]
 
 # More than all crates weigh.
 _NO_LIMIT = 10**60
-
-
-def _rows(side: int, whole: int) -> int:
-    """How much of a side is taken by as many equal crates as fit along it."""
-    return whole - whole % side
-
-
-# Which face is down. What is less is better.
-TURNINGS: dict[str, Callable[[Turn, Room], tuple[int, ...]]] = {
-    "filling the height": lambda turn, room: (-_rows(turn.high, room.high), turn.high),
-    "in walls": lambda turn, room: (-_rows(turn.wide, room.wide) * _rows(turn.high, room.high), turn.long),
-    "flat": lambda turn, room: (turn.high, -turn.wide),
-    "standing": lambda turn, room: (-turn.high, turn.wide * turn.long),
-}
-
-# What goes first, below or on a top. What is more is better.
-ORDERS: dict[str, Callable[[Turn], int]] = {
-    "bottom": lambda turn: turn.wide * turn.long,
-    "volume": lambda turn: turn.wide * turn.high * turn.long,
-    "height": lambda turn: turn.high,
-    "longest side": lambda turn: max(turn.wide, turn.long),
-}
-
-
-class Way(NamedTuple):
-    """How stacks are made: which face is down, what goes below first, what on a top, and whether equal crates go side by side
-    across the container and along it."""
-
-    turning: str
-    below: str
-    on: str
-    across: bool = False
-    along: bool = False
-    # By so much of itself a rate may be more by chance.
-    noise: float = 0.0
-    seed: int = 0
-
-
-# What all crates are stacked in at first.
-WAYS = (
-    Way("standing", "bottom", "bottom"),
-    Way("filling the height", "bottom", "bottom"),
-    Way("in walls", "volume", "volume", across=True),
-    Way("in walls", "bottom", "bottom", across=True, along=True),
-    Way("flat", "volume", "bottom", along=True),
-)
 
 
 class Stack:
