@@ -24,6 +24,9 @@ __all__ = ["Load", "Search"]
 
 _Item = TypeVar("_Item")
 
+# So many tries are made, and fewer where there are many crates.
+_TRIES, _LEAST_TRIES, _TRIED = 100, 20, 60_000
+
 # So many tries has the library's search for all stacks, and for those of some containers.
 _OF_ALL, _OF_SOME = 600, 300
 
@@ -66,8 +69,9 @@ class Load:
 class Search:
     """A search for the cheapest load, of so many tries and so many seconds at most. best is the best load so far."""
 
-    def __init__(self, job: Job, tries: int, seconds: float | None = None) -> None:
-        self._job, self._tries = job, tries
+    def __init__(self, job: Job, tries: int | None = None, seconds: float | None = None) -> None:
+        crates = sum(kind.count for kind in job.kinds)
+        self._job, self._tries = job, tries or max(min(_TRIES, _TRIED // crates), _LEAST_TRIES)
         self._end = None if seconds is None else time.monotonic() + seconds
         self._chance = random.Random(1)
         self.best = Load(job, ())
@@ -77,7 +81,7 @@ class Search:
         """Makes the tries."""
         lots = [(it, it.count) for it in self._job.containers if it.count]
         heights = sorted({it.room.high for it, _ in lots}, reverse=True)[:_MOST_HEIGHTS]
-        first = [stacks for high in heights for stacks in self._first(lots, high)]
+        first = self._first(lots, heights)
         now = self.best
         for number in progress(range(self._tries), self._tries, "loading"):
             if self._is_over():
@@ -101,10 +105,12 @@ class Search:
     def _asked(self, _: Progress) -> bool:
         return self._end is None or time.monotonic() < self._end
 
-    def _first(self, lots: Lots, high: int) -> list[list[Stack]]:
-        """All crates in stacks, as high as this where they can be: in the ways that take the least of the floors."""
-        made = (self._stacks(self.best.left, lots, way, high) for way in WAYS)
-        return sorted(made, key=lambda stacks: sum(it.floor for it in stacks))[:_MOST_WAYS]
+    def _first(self, lots: Lots, heights: Sequence[int]) -> list[list[Stack]]:
+        """All crates in stacks, in the ways that take the least of the floors, for each of these heights."""
+        made = ((self._stacks(self.best.left, lots, way, heights[0]), way) for way in WAYS)
+        best = sorted(made, key=lambda it: sum(stack.floor for stack in it[0]))[:_MOST_WAYS]
+        lower = (self._stacks(self.best.left, lots, way, high) for high in heights[1:] for _, way in best)
+        return [*(stacks for stacks, _ in best), *lower]
 
     def _stacks(self, counts: Sequence[int], lots: Lots, way: Way, high: int) -> list[Stack]:
         return stacks_of(self._job, counts, way, [it for it, count in lots if count], high)

@@ -118,12 +118,14 @@ class _Builder:
         for base, room in self._bases(target):
             while self._left[base.kind.index]:
                 yield self._stack(base, room)
-            self._leave_out()
+            if 8 * self._gone > len(self._bearers) + len(self._lasts):
+                self._leave_out()
 
     def _leave_out(self) -> None:
         """Leaves out what is used up, and notes what no side is less than of all that is left."""
         self._bearers, self._lasts = (
             [it for it in options if self._left[it.kind.index]] for options in (self._bearers, self._lasts))
+        self._gone = 0
         self._least = [min(sides) for sides in list(zip(*self._bearers, *self._lasts))[:3]]
 
     def _stack(self, base: _Option, room: Room) -> Stack:
@@ -172,6 +174,7 @@ class _Builder:
         across = min(area.wide // it.wide, count)
         along = min(area.long // it.long, count // across)
         self._left[kind.index] -= across * along
+        self._gone += not self._left[kind.index]
         self._carried -= kind.weight * across * along
         self._mine = kind.customer if kind.customer in self._apart else self._mine
         self._crates += [
