@@ -14,6 +14,7 @@ from __future__ import annotations
 import heapq
 from collections.abc import Iterator, Sequence
 from graphlib import CycleError, TopologicalSorter
+from itertools import islice
 from typing import NamedTuple
 
 from .._common import NoRoom
@@ -41,27 +42,20 @@ class _Box(NamedTuple):
     front: int
 
 
-def _is_before(one: _Box, other: _Box) -> bool:
-    """Whether one has to be loaded before the other, where they share some of the width."""
-    if one.front <= other.back:
-        return one.bottom < other.top and other.bottom < one.top
-    return one.top <= other.bottom and other.back < one.front and one.back < other.front
-
-
 def _pairs(crates: Sequence[Standing]) -> Iterator[tuple[int, int]]:
-    """The pairs of which the first is loaded before the second."""
+    """The pairs of which the first is loaded before the second, among those that share some of the width."""
     boxes = [_Box(it.x, it.right, it.y, it.top, it.z, it.front) for it in crates]
     by_left = sorted(range(len(boxes)), key=lambda index: boxes[index].left)
-    for rank, index in enumerate(by_left):
-        one = boxes[index]
-        for later in range(rank + 1, len(by_left)):
-            other = boxes[by_left[later]]
-            if one.right <= other.left:
+    for rank, index in enumerate(by_left, start=1):
+        _, right, bottom, top, back, front = boxes[index]
+        for other in islice(by_left, rank, None):
+            left, _, other_bottom, other_top, other_back, other_front = boxes[other]
+            if right <= left:
                 break
-            if _is_before(one, other):
-                yield index, by_left[later]
-            elif _is_before(other, one):
-                yield by_left[later], index
+            if bottom < other_top and other_bottom < top:
+                yield (index, other) if front <= other_back else (other, index)
+            elif back < other_front and other_back < front:
+                yield (index, other) if top <= other_bottom else (other, index)
 
 
 def in_order(crates: Sequence[Standing]) -> list[Standing]:

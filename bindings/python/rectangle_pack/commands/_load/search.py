@@ -25,13 +25,14 @@ __all__ = ["Load", "Search"]
 _Item = TypeVar("_Item")
 
 # So many tries are made, and fewer where there are many crates.
-_TRIES, _LEAST_TRIES, _TRIED = 100, 20, 60_000
+_TRIES, _LEAST_TRIES, _TRIED = 100, 16, 45_000
 
 # So many tries has the library's search for all stacks, and for those of some containers.
 _OF_ALL, _OF_SOME = 600, 300
 
-# In so many heights, and in each in so many ways, all crates are stacked at most.
-_MOST_HEIGHTS, _MOST_WAYS = 3, 2
+# In so many heights, and in each in so many ways, all crates are placed at most; and in one way where so many lines have so many
+# crates, which take longer to stack.
+_MOST_HEIGHTS, _MOST_WAYS, _MANY = 3, 2, 600_000
 
 
 @dataclass(frozen=True)
@@ -107,8 +108,9 @@ class Search:
 
     def _first(self, lots: Lots, heights: Sequence[int]) -> list[list[Stack]]:
         """All crates in stacks, in the ways that take the least of the floors, for each of these heights."""
-        made = ((self._stacks(self.best.left, lots, way, heights[0]), way) for way in WAYS)
-        best = sorted(made, key=lambda it: sum(stack.floor for stack in it[0]))[:_MOST_WAYS]
+        is_long = len(self._job.kinds) * sum(self.best.left) > _MANY
+        made = ((self._stacks(self.best.left, lots, way, heights[0]), way) for way in (WAYS[:2] if is_long else WAYS))
+        best = sorted(made, key=lambda it: sum(stack.floor for stack in it[0]))[:1 if is_long else _MOST_WAYS]
         lower = (self._stacks(self.best.left, lots, way, high) for high in heights[1:] for _, way in best)
         return [*(stacks for stacks, _ in best), *lower]
 
