@@ -105,10 +105,12 @@ def add_to(commands: Any) -> None:
                         help="a table with such pairs, in the columns customer and other")
     parser.add_argument("--together", action="store_true", help="all crates of a customer go into one container")
     parser.add_argument("--tries", type=_tries, metavar="N",
-                        help="stack crates in N ways on trial; more may find a better load (100, and 16 from 3000 crates on)")
+                        help="stack crates in N ways on trial; more may find a better load (100; fewer from 620 crates on, as 20 "
+                        "for 3000)")
     parser.add_argument("--seconds", type=_seconds, metavar="S", help="search no longer than this")
     parser.add_argument("--partial", action="store_true",
-                        help="where not all crates fit, load those that do, and write a table of the others; the exit status is 1")
+                        help="where not all crates fit, load those that do, and write a table of the others; the exit status "
+                        "is 1")
     _add_written(parser)
     parser.set_defaults(run=_run)
 

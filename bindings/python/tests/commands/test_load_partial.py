@@ -34,8 +34,7 @@ class Partial(LoadCase):
         self.assertEqual(answer["left"], [{"crate": "plank", "line": 2, "count": 1}])
         self.assertEqual((answer["least"], answer["proved"]), (None, False))
         self.assertEqual(left, "name,count,length,width,height\nplank,1,4,2,1\n")
-        self.assertEqual(
-            error, f"1 of 4 crates are left over: 1 x 'plank' of line 2 (4 x 2 x 1); {self.path} lists them\n")
+        self.assertEqual(error, f"1 of 4 crates are left over: 1 x 'plank' of line 2 (4 x 2 x 1); {self.path} lists them\n")
 
     def test_what_fits_nowhere_is_left(self):
         crates = [f"{HEAD},weight", "pole,2,99,1,1,5", "safe,1,1,1,1,900", "cube,2,1,1,1,5"]

@@ -156,7 +156,8 @@ class Stacks(unittest.TestCase):
                     self.assertIn(it.turn, it.kind.turns)
                     below = [on for on in stack.crates if on.top == it.y and on.x < it.right and it.x < on.right
                              and on.z < it.front and it.z < on.front]
-                    area = sum((min(on.right, it.right) - max(on.x, it.x)) * (min(on.front, it.front) - max(on.z, it.z)) for on in below)
+                    area = sum(
+                        (min(on.right, it.right) - max(on.x, it.x)) * (min(on.front, it.front) - max(on.z, it.z)) for on in below)
                     self.assertTrue(not it.y or area == it.turn.wide * it.turn.long)
                     self.assertTrue(all(on.kind.is_stackable for on in below))
 

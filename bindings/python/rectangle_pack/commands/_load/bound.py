@@ -26,8 +26,9 @@ def _by_sizes(job: Job) -> int | None:
 def _by_weight(job: Job) -> int | None:
     """How many of the containers that may carry most carry the weight of all crates."""
     weight = sum(kind.weight * kind.count for kind in job.kinds)
-    payloads = sorted((weight if it.payload is None else it.payload for it in job.containers for _ in range(it.count)), reverse=True)
-    return next((count for count, carried in enumerate(accumulate(payloads, initial=0)) if carried >= weight), None)
+    payloads = (weight if it.payload is None else it.payload for it in job.containers for _ in range(it.count))
+    carried = accumulate(sorted(payloads, reverse=True), initial=0)
+    return next((count for count, most in enumerate(carried) if most >= weight), None)
 
 
 def least_containers(job: Job) -> int | None:

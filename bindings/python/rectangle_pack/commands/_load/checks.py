@@ -14,7 +14,8 @@ def _counted(job: Job, kinds: Sequence[tuple[Kind, int]]) -> str:
     """Each kind of crates, with how many there are: 2 x 'pallet' of line 3 (120 x 80 x 105 cm, 400 kg)"""
     weights = [f", {job.weight(kind.weight)}" if job.has_weights else "" for kind, _ in kinds]
     return ", ".join(
-        f"{count} x {kind.name!r} of line {kind.line} ({job.sizes(kind)}{weight})" for (kind, count), weight in zip(kinds, weights))
+        f"{count} x {kind.name!r} of line {kind.line} ({job.sizes(kind)}{weight})"
+        for (kind, count), weight in zip(kinds, weights))
 
 
 def _refuse_crates(job: Job, containers: Sequence[Container]) -> None:
@@ -60,7 +61,8 @@ def refuse_misfits(job: Job) -> None:
     payloads = [it.payload * it.count for it in containers if it.payload is not None]
     if len(payloads) == len(containers) and sum(payloads) < weight:
         raise NoRoom(
-            f"the containers are full: they have a payload of {job.weight(sum(payloads))}, and the crates weigh {job.weight(weight)}")
+            f"the containers are full: they have a payload of {job.weight(sum(payloads))}, "
+            f"and the crates weigh {job.weight(weight)}")
     if job.together:
         _refuse_customers(job, containers)
 

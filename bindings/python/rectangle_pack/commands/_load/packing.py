@@ -121,7 +121,8 @@ class _Floors:
 def _packed(floors: _Floors, tries: int, seed: int, asked: Asked | None) -> tuple[list[Loaded], list[Stack]]:
     """Stacks in containers, and those that are left, whatever they weigh."""
     packing = pack(
-        floors.bins(), floors.boxes(), exclude=floors.exclude(), partial=True, tries=tries, seed=seed, turn="upright", progress=asked)
+        floors.bins(), floors.boxes(), exclude=floors.exclude(), partial=True, tries=tries, seed=seed, turn="upright",
+        progress=asked)
     homes: dict[tuple[int, int], list[Placed]] = {}
     for it in packing:
         homes.setdefault((it.bin, it.copy), []).append(Placed(floors.stacks[it.name], it.x, it.z, it.turned))
@@ -156,8 +157,8 @@ def _weight(placed: Sequence[Placed]) -> int:
 def loaded_of(
     job: Job, stacks: Sequence[Stack], lots: Lots, tries: int, seed: int, asked: Asked | None = None,
 ) -> tuple[list[Loaded], list[Stack]]:
-    """The stacks in containers, and those that are left. What is over the payload of a container is taken out, and goes into further
-    ones, until nothing is over."""
+    """The stacks in containers, and those that are left. What is over the payload of a container is taken out, and goes into
+    further ones, until nothing is over."""
     done, left, free = list[Loaded](), list(stacks), dict(lots)
     while left and any(free.values()):
         packed, left = _packed(_Floors(job, left, list(free.items())), tries, seed, asked)
@@ -180,7 +181,8 @@ def shortened(loaded: Loaded, tries: int) -> Loaded:
     short = max(sum(it.floor for it in stacks) // room.wide, 1) - 1
     while loaded.length - short > max(room.long // 100, 1):
         middle = (short + loaded.length) // 2
-        packing = pack([Bin(room.wide, 1, middle)], [Box(it.wide, 1, it.long) for it in stacks], partial=True, tries=tries, turn="upright")
+        boxes = [Box(it.wide, 1, it.long) for it in stacks]
+        packing = pack([Bin(room.wide, 1, middle)], boxes, partial=True, tries=tries, turn="upright")
         if packing.left:
             short = middle
         else:

@@ -25,7 +25,7 @@ __all__ = ["Load", "Search"]
 _Item = TypeVar("_Item")
 
 # So many tries are made, and fewer where there are many crates.
-_TRIES, _LEAST_TRIES, _TRIED = 100, 16, 45_000
+_TRIES, _LEAST_TRIES, _TRIED = 100, 12, 62_000
 
 # So many tries has the library's search for all stacks, and for those of some containers.
 _OF_ALL, _OF_SOME = 600, 300
@@ -85,10 +85,12 @@ class Search:
         first = self._first(lots, heights)
         now = self.best
         for number in progress(range(self._tries), self._tries, "loading"):
-            if self._is_over():
+            # One try is made, however few the seconds are.
+            if number and self._is_over():
                 break
             if number < len(first):
-                now = min(now, Load(self._job, tuple(self._loaded(first[number], lots, _OF_ALL))), key=lambda it: it.rank)
+                loaded = self._loaded(first[number], lots, _OF_ALL)
+                now = min(now, Load(self._job, tuple(loaded)), key=lambda it: it.rank)
             else:
                 now = self._changed(now)
             self.best = min(self.best, now, key=lambda it: it.rank)

@@ -80,8 +80,8 @@ class _Builder:
         self._bearers = [it for it in rated if it.kind.is_stackable]
         self._lasts = [it for it in rated if not it.kind.is_stackable]
         self._leave_out()
-        # Of the stack that is made: its crates, the tops that are free, what it may still weigh, and the customer from whom others
-        # are apart.
+        # Of the stack that is made: its crates, the tops that are free, what it may still carry, and the customer from whom
+        # others are apart.
         self._crates: list[Standing] = []
         self._areas: list[_Area] = []
         self._carried, self._mine = 0, ""
@@ -166,8 +166,8 @@ class _Builder:
         return is_free and (self._mine in ("", kind.customer) or kind.customer not in self._apart)
 
     def _stand(self, kind: Kind, it: Turn, area: _Area, is_filled: bool) -> None:
-        """Stands equal crates side by side on an area, as many as can be. Their top, and what is free beside them, are filled later:
-        the top first."""
+        """Stands equal crates side by side on an area, as many as can be. Their top, and what is free beside them, are filled
+        later: the top first."""
         count = self._left[kind.index]
         if kind.weight:
             count = min(count, self._carried // kind.weight)
