@@ -3,6 +3,7 @@ from __future__ import annotations
 
 import random
 from collections.abc import Iterator, Sequence
+from dataclasses import dataclass
 from functools import cached_property
 from typing import NamedTuple
 
@@ -15,20 +16,21 @@ __all__ = ["Stack", "stacks_of"]
 _NO_LIMIT = 10**60
 
 
+@dataclass(frozen=True, eq=False)
 class Stack:
     """Crates on each other, with their places from the corner of the stack on."""
 
-    def __init__(self, crates: Sequence[Standing]) -> None:
-        self.crates = crates
-        self.wide, self.high, self.long = (max(ends) for ends in zip(*((it.right, it.top, it.front) for it in crates)))
-        self.volume = sum(it.kind.volume for it in crates)
-        self.weight = sum(it.kind.weight for it in crates)
+    crates: Sequence[Standing]
+    wide: int
+    high: int
+    long: int
+    volume: int
+    weight: int
 
     @property
     def floor(self) -> int:
         """How much of a floor it takes."""
-        area: int = self.wide * self.long
-        return area
+        return self.wide * self.long
 
     @cached_property
     def customers(self) -> frozenset[str]:
@@ -80,11 +82,11 @@ class _Builder:
         self._bearers = [it for it in rated if it.kind.is_stackable]
         self._lasts = [it for it in rated if not it.kind.is_stackable]
         self._leave_out()
-        # Of the stack that is made: its crates, the tops that are free, what it may still carry, and the customer from whom
-        # others are apart.
+        # Of the stack that is made: its crates, the tops that are free, how high it is, its volume, what it may still carry, and
+        # the customer from whom others are apart.
         self._crates: list[Standing] = []
         self._areas: list[_Area] = []
-        self._carried, self._mine = 0, ""
+        self._high, self._volume, self._carried, self._mine = 0, 0, 0, ""
 
     def _turns(self, kinds: Sequence[Kind]) -> Iterator[tuple[Kind, Turn]]:
         """The kinds with each face down that they may have, across or along the containers, where some container takes them so."""
@@ -129,29 +131,31 @@ class _Builder:
         self._least = [min(sides) for sides in list(zip(*self._bearers, *self._lasts))[:3]]
 
     def _stack(self, base: _Option, room: Room) -> Stack:
-        self._crates, self._areas, self._mine = [], [], ""
         # No more than the container with the least payload carries that carries the lowest crate.
-        self._carried = next(it for it in self._payloads if it >= base.kind.weight)
+        most = next(it for it in self._payloads if it >= base.kind.weight)
+        self._crates, self._areas, self._high, self._volume, self._carried, self._mine = [], [], 0, 0, most, ""
         turn = base.turn
         across = room.wide // turn.wide if self._way.across else 1
         along = room.long // turn.long if self._way.along else 1
         self._stand(base.kind, turn, _Area(0, 0, 0, across * turn.wide, room.high, along * turn.long), False)
+        corner = self._crates[-1]
         while self._areas:
             area = self._areas.pop()
             option = self._best(area)
             if option:
                 self._stand(option.kind, _laid(option.turn, area), area, True)
-        return Stack(self._crates)
+        return Stack(self._crates, corner.right, self._high, corner.front, self._volume, most - self._carried)
 
     def _best(self, area: _Area) -> _Option | None:
         """What goes on an area first: what bears others, as long as there is room on it for what bears nothing."""
-        last = self._first(self._lasts, area, area.high)
-        bearer = self._first(self._bearers, area, area.high - last.high if last else area.high)
-        return bearer or last
+        _, _, _, wide, high, long = area
+        sides = (wide, long) if wide < long else (long, wide)
+        last = self._first(self._lasts, sides, high)
+        return self._first(self._bearers, sides, high - last.high if last else high) or last
 
-    def _first(self, options: Sequence[_Option], area: _Area, most: int) -> _Option | None:
-        """The first of these that fits on an area, and is no higher than this."""
-        least, greatest = min(area.wide, area.long), max(area.wide, area.long)
+    def _first(self, options: Sequence[_Option], sides: tuple[int, int], most: int) -> _Option | None:
+        """The first of these that fits between such sides, and is no higher than this."""
+        least, greatest = sides
         if least < self._least[0] or greatest < self._least[1] or most < self._least[2]:
             return None
         for it in options:
@@ -175,6 +179,8 @@ class _Builder:
         along = min(area.long // it.long, count // across)
         self._left[kind.index] -= across * along
         self._gone += not self._left[kind.index]
+        self._high = max(self._high, area.y + it.high)
+        self._volume += kind.volume * across * along
         self._carried -= kind.weight * across * along
         self._mine = kind.customer if kind.customer in self._apart else self._mine
         self._crates += [
@@ -193,17 +199,19 @@ def _high(room: Room) -> int:
 
 def _laid(turn: Turn, area: _Area) -> Turn:
     """A crate across an area or along it, so that more of them fit side by side."""
-    other = turn._replace(wide=turn.long, long=turn.wide)
-    return max(turn, other, key=lambda it: (area.wide // it.wide) * (area.long // it.long))
+    wide, high, long, down = turn
+    is_better = (area.wide // long) * (area.long // wide) > (area.wide // wide) * (area.long // long)
+    return Turn(long, high, wide, down) if is_better else turn
 
 
 def _beside(area: _Area, wide: int, long: int) -> list[_Area]:
     """What is free of an area beside crates that take so much of it, in two parts, of which one is as large as it can be."""
-    right, front = area.wide - wide, area.long - long
-    is_long = right * area.long > front * area.wide
+    x, y, z, all_wide, high, all_long = area
+    right, front = all_wide - wide, all_long - long
+    is_long = right * all_long > front * all_wide
     return [
-        area._replace(x=area.x + wide, wide=right, long=area.long if is_long else long),
-        area._replace(z=area.z + long, long=front, wide=wide if is_long else area.wide)]
+        _Area(x + wide, y, z, right, high, all_long if is_long else long),
+        _Area(x, y, z + long, wide if is_long else all_wide, high, front)]
 
 
 def stacks_of(job: Job, left: Sequence[int], way: Way, containers: Sequence[Container], target: int) -> list[Stack]:
