@@ -105,7 +105,7 @@ def add_to(commands: Any) -> None:
                         help="a table with such pairs, in the columns customer and other")
     parser.add_argument("--together", action="store_true", help="all crates of a customer go into one container")
     parser.add_argument("--tries", type=_tries, metavar="N",
-                        help="stack crates in N ways on trial; more may find a better load (100; fewer from 620 crates on, as 20 "
+                        help="stack crates in N ways on trial; more may find a better load (80; fewer from 625 crates on, as 16 "
                         "for 3000)")
     parser.add_argument("--seconds", type=_seconds, metavar="S", help="search no longer than this")
     parser.add_argument("--partial", action="store_true",

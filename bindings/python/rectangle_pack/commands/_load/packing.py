@@ -24,6 +24,9 @@ Price = tuple[Decimal, int, int]
 # What the library counts with: a container costs so much more than a part of the greatest volume, and the dearest so much more.
 _ONE, _DEAREST = 10**6, 10**15
 
+# With more pairs of stacks that are kept apart fewer tries are made.
+_FEW_PAIRS = 1000
+
 
 class Placed(NamedTuple):
     """A stack and its corner, and whether it is turned about."""
@@ -120,9 +123,11 @@ class _Floors:
 
 def _packed(floors: _Floors, tries: int, seed: int, asked: Asked | None) -> tuple[list[Loaded], list[Stack]]:
     """Stacks in containers, and those that are left, whatever they weigh."""
+    exclude = floors.exclude()
+    # A try takes as long as there are pairs, where there are many.
+    tries = max(tries * _FEW_PAIRS // max(len(exclude), _FEW_PAIRS), 1)
     packing = pack(
-        floors.bins(), floors.boxes(), exclude=floors.exclude(), partial=True, tries=tries, seed=seed, turn="upright",
-        progress=asked)
+        floors.bins(), floors.boxes(), exclude=exclude, partial=True, tries=tries, seed=seed, turn="upright", progress=asked)
     homes: dict[tuple[int, int], list[Placed]] = {}
     for it in packing:
         homes.setdefault((it.bin, it.copy), []).append(Placed(floors.stacks[it.name], it.x, it.z, it.turned))

@@ -25,10 +25,13 @@ __all__ = ["Load", "Search"]
 _Item = TypeVar("_Item")
 
 # So many tries are made, and fewer where there are many crates.
-_TRIES, _LEAST_TRIES, _TRIED = 100, 12, 62_000
+_TRIES, _LEAST_TRIES, _TRIED = 80, 12, 50_000
 
-# So many tries has the library's search for all stacks, and for those of some containers.
-_OF_ALL, _OF_SOME = 600, 300
+# So many tries has the library's search for all stacks, or as many as place so many stacks; and for those of some containers.
+_OF_ALL, _PLACED, _OF_SOME = 600, 120_000, 300
+
+# So often only one kind of container is offered.
+_OF_ONE_KIND = 0.25
 
 # In so many heights, and in each in so many ways, all crates are placed at most; and in one way where so many lines have so many
 # crates, which take longer to stack.
@@ -89,7 +92,8 @@ class Search:
             if number and self._is_over():
                 break
             if number < len(first):
-                loaded = self._loaded(first[number], lots, _OF_ALL)
+                stacks = first[number]
+                loaded = self._loaded(stacks, lots, max(_OF_ALL, _PLACED // max(len(stacks), 1)))
                 now = min(now, Load(self._job, tuple(loaded)), key=lambda it: it.rank)
             else:
                 now = self._changed(now)
@@ -154,9 +158,13 @@ class Search:
         some = self._some(now)
         kept = [it for it in now.containers if not any(it is other for other in some)]
         taken = Counter(it.container for it in kept)
-        lots = [(it, min(it.count - taken[it], len(some) + any(now.left))) for it in self._job.containers]
+        free = [(it, min(it.count - taken[it], len(some) + any(now.left))) for it in self._job.containers]
+        lots = [(it, count) for it, count in free if count]
+        if not any(now.left) and self._chance.random() < _OF_ONE_KIND:
+            # So one that is large may stand in for several.
+            lots = [self._one_of(lots)]
         counts = self._offered(now.left, Load(self._job, tuple(kept)).left)
-        target = self._one_of([it.room.high for it, count in lots if count])
+        target = self._one_of([it.room.high for it, _ in lots])
         loaded = self._loaded(self._stacks(counts, lots, self._way(), target), lots, _OF_SOME)
         found = Load(self._job, (*kept, *loaded))
         # A little worse, so that the search can leave where it stands.
