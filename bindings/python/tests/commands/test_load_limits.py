@@ -116,6 +116,15 @@ class Proved(LoadCase):
             self.crates(*pallets), self.containers(HEAD, "20 ft,3,589.8,235.2,239.3"), "--apart", "A,B")
         self.assertEqual(len(answer["containers"]), 3)
 
+    def test_a_container_stands_in_for_two_that_cost_more(self):
+        # A cell of the large one costs 15 / 6, one of the small one 10 / 3: so large ones that are full are cheapest.
+        rooms = [f"{HEAD},cost", "small,8,3,1,1,10", "large,8,6,1,1,15"]
+        crates = [f"{HEAD},customer", "a,12,1,1,1,A", "b,12,1,1,1,B"]
+        for more, cost in (([], 60), (["c,6,1,1,1,C"], 75)):
+            with self.subTest(cost=cost):
+                answer = self.loaded(self.crates(*crates, *more), self.containers(*rooms), "--apart", "A,B")
+                self.assertEqual(answer["cost"], cost)
+
 
 class Ends(LoadCase):
     def test_seconds(self):
