@@ -5,33 +5,30 @@ import argparse
 import sys
 from collections.abc import Sequence
 from pathlib import Path
-from typing import Any, get_args
+from typing import Any
 
-from .. import Heuristic
-from ._common import DONE, STOPPED, Wrong, print_json, refuse_over
+from ._common import DONE, NO_ROOM, STOPPED, Wrong, print_json, refuse_over
 from ._cut.alike import alike_of
 from ._cut.files import earlier, files_of, write_all
-from ._cut.fits import check_each_fits
-from ._cut.job import Job, Work
-from ._cut.packing import Filled
+from ._cut.job import Work
+from ._cut.packing import Packed
 from ._cut.pdf import cairo
 from ._cut.read import Tables, read_work, sizes_of
 from ._cut.result import Result, Results
 from ._cut.scene import scene_of
-from ._cut.search import search
+from ._cut.search import TRIES, Limits, check_each_fits, search_all
 from ._cut.text import sums_text
 from ._cut.unit import UNITS
 from ._cut.values import as_json
-from ._cut.watch import Watch
+from ._cut.watch import Stop
 
 __all__ = ["add_to", "run"]
-
-HEURISTICS: tuple[Heuristic, ...] = get_args(Heuristic)
 
 DESCRIPTION = """\
 Plans how panels are cut from sheets on a panel saw, where each cut goes straight through its whole part. Looks for the
 cheapest sheets that take all panels; then for the fewest sheets, the least waste and the fewest cuts. It is a search by
-trial, so something better may exist. Sizes are in mm and may have decimals. They are exact, and so is the kerf.
+trial: something better may exist. Where it is proved that no plan needs fewer sheets, it says so. Sizes are in mm and may have
+decimals. They are exact, and so is the kerf.
 
 tables (CSV; the first line names the columns, in any order; separated by comma, semicolon or tab):
   PANELS    name,count,width,height,grain     name, count (1) and grain (free) may be left out
@@ -52,6 +49,7 @@ written to the folder, for sheets 1, 2 and so on; plans of materials to folders 
   sheet-1.txt   the cuts as numbered steps     plan.pdf     the drawings, a page of A4 a plan
   sheet-1.svg   the drawing, to scale          offcuts.csv  what a later run can take as --offcuts: also those not used
                                                buy.csv      the sheets to buy, and what they cost
+With --partial left.csv has the panels that no sheet takes, in the columns of PANELS.
 Sheets with the same panels are cut alike, and have one plan: sheet-1-to-3.txt. A new offcut is named by the job, the material
 or else the name of its sheet, the number of the sheet, and its own: sideboard birch 18 1-2.
 """
@@ -94,10 +92,12 @@ def _add_given(it: argparse.ArgumentParser) -> None:
     it.add_argument("--trim-offcuts", action="store_true", help="offcuts are trimmed too")
     it.add_argument("--keep", metavar="WxH",
                     help="the smallest offcut worth keeping, either way round (200x200, in inches 8x8)")
-    it.add_argument("--heuristic", choices=("best", *HEURISTICS), default="best", metavar="NAME",
-                    help=f"what goes first, by name, or the best of all (best): {', '.join(HEURISTICS)}")
-    it.add_argument("--tries", type=int, metavar="N", default=200,
-                    help="how many turnings and sets of sheets are tried (200): more take longer, and may cost less")
+    it.add_argument("--tries", type=int, metavar="N",
+                    help=f"how many packings of some sheets are tried ({TRIES}): more take longer, and may cost less")
+    it.add_argument("--seconds", type=float, metavar="S",
+                    help="so long is searched, or until the tries are made where --tries is said too")
+    it.add_argument("--partial", action="store_true",
+                    help="where not all panels fit, those that do are planned, and left.csv has the others")
 
 
 def _add_written(it: argparse.ArgumentParser) -> None:
@@ -107,11 +107,12 @@ def _add_written(it: argparse.ArgumentParser) -> None:
                     help="the plans of an earlier run in the folder go; a folder with such plans is refused without it")
     it.add_argument("--no-pdf", action="store_true", help="without plan.pdf, which needs pycairo")
     it.add_argument("--json", action="store_true",
-                    help="prints all that was decided as one JSON object: job, sums, materials (the sums of each), used, "
-                    "offcuts_left, sheets (each with panels, offcuts and cuts; plan is the number of the sheet whose plan it "
-                    "has), files. Lengths are in the unit, areas in its square; at of a cut is counted from its part's edge, "
-                    "off is what a trim takes off, blade (its near and far side) and all else are counted from the left "
-                    "lower corner of the sheet; line counts the head of a table as line 1")
+                    help="prints all that was decided as one JSON object: job, sums, materials (the sums of each, and how many "
+                    "sheets are needed at least), used, offcuts_left, sheets (each with panels, offcuts and cuts; plan is the "
+                    "number of the sheet whose plan it has), left (panels), files. Lengths are in the unit, areas in its "
+                    "square; at of a cut is counted from its part's edge, off is what a trim takes off, blade (its near and far "
+                    "side) and all else are counted from the left lower corner of the sheet; line counts the head of a table "
+                    "as line 1")
     it.add_argument("--page", type=Path, metavar="FILE", help="writes an HTML page on which to step through the cuts")
 
 
@@ -119,8 +120,10 @@ def _check(options: argparse.Namespace) -> None:
     """Refuses what would be refused after the search."""
     if options.stock is None and not options.offcuts:
         raise Wrong("there is nothing to cut from: name --stock, --offcuts or both")
-    if options.tries < 1:
-        raise Wrong(f"--tries is {options.tries}, and must be at least 1")
+    if options.tries is not None and not 1 <= options.tries < 2**63:
+        raise Wrong(f"--tries is {options.tries}, and must be from 1 to {2**63 - 1}")
+    if options.seconds is not None and not 0 < options.seconds < 1e9:
+        raise Wrong(f"--seconds is {options.seconds:g}, and must be more than 0, and less than a billion")
     if not options.no_pdf:
         cairo()
     if options.out.exists() and not options.out.is_dir():
@@ -141,41 +144,21 @@ def _work(options: argparse.Namespace) -> Work:
     return work
 
 
-def _searched(job: Job, options: argparse.Namespace, watch: Watch) -> tuple[Sequence[Filled], bool]:
-    """The sheets of a job, and whether the user ended the search."""
-    heuristics = HEURISTICS if options.heuristic == "best" else (options.heuristic,)
-    try:
-        return search(job, heuristics, options.tries, watch), False
-    except KeyboardInterrupt:
-        return watch.best, True
-    finally:
-        watch.end()
-
-
-def _search_all(work: Work, options: argparse.Namespace) -> tuple[list[Sequence[Filled]], str]:
-    """The sheets of one job after the other, until the user ends that; and a line that says so. Those that are not begun then
-    have no sheets."""
-    # Before the first search, which may take long.
-    for job in work.jobs:
+def _search(work: Work, options: argparse.Namespace, stop: Stop) -> tuple[list[Packed], str]:
+    """The sheets of all jobs; and where the user ended the search, a line that says so."""
+    for job in () if options.partial else work.jobs:
         check_each_fits(job)
-    found, stopped = list[Sequence[Filled]](), ""
-    for job in work.jobs:
-        filled: Sequence[Filled] = ()
-        if not stopped:
-            watch = Watch(job, options.tries)
-            filled, was_stopped = _searched(job, options, watch)
-            stopped = f"stopped after {watch.count}: the plan is the best so far" if was_stopped else ""
-        found.append(filled)
-    if not any(found):
+    found, stopped = search_all(work.jobs, Limits(options.tries, options.seconds, options.partial), stop)
+    if stopped and not any(it.sheets for it in found):
         raise KeyboardInterrupt
-    without = ", ".join(job.of for job, filled in zip(work.jobs, found) if not filled)
-    return found, stopped + (f"; no plan of {without}" if without else "")
+    return found, stopped
 
 
-def _write(work: Work, found: Sequence[Sequence[Filled]], options: argparse.Namespace) -> tuple[Results, list[Path]]:
+def _write(work: Work, found: Sequence[Packed], options: argparse.Namespace) -> tuple[Results, list[Path]]:
     """Writes the plans of all sheets, and answers which files these are."""
     results = Results(work, [
-        *(Result(job, alike_of(job, filled)) for job, filled in zip(work.jobs, found)), *map(Result, work.idle)])
+        *(Result(job, alike_of(job, it.sheets), it.left, it.least) for job, it in zip(work.jobs, found)),
+        *map(Result, work.idle)])
     files = files_of(results, not options.no_pdf)
     write_all(options.out, files)
     if options.page:
@@ -189,20 +172,15 @@ def run(options: argparse.Namespace) -> int:
     _check(options)
     refuse_over(options.page, options.panels, options.stock, *options.offcuts)
     work = _work(options)
-    found, stopped = _search_all(work, options)
-    try:
-        results, files = _write(work, found, options)
-    except KeyboardInterrupt:
-        # Who stops it again means it.
-        if stopped:
-            raise
-        stopped = "stopped when the search had ended: the plans are whole"
+    with Stop() as stop:
+        found, stopped = _search(work, options, stop)
         results, files = _write(work, found, options)
     if options.json:
         print_json({**as_json(results), "files": [*map(str, files)]})
     else:
         print(sums_text(results))
         print(f"{len(files)} files written to {options.out}")
-    if stopped:
-        print(stopped, file=sys.stderr)
-    return STOPPED if stopped else DONE
+    if stop.is_pressed:
+        print(stopped or "stopped when the search had ended: the plans are whole", file=sys.stderr)
+        return STOPPED
+    return NO_ROOM if results.left else DONE

@@ -43,7 +43,7 @@ class Sheets(Case):
         self.assertEqual(lines[:2], ["10 panels from 4 sheets, cost 40", "  4 x ply, 200 x 200, cost 40"])
         self.assertIn(lines[2], ("  sheets 1 to 3: 3 times this sheet", "  sheets 2 to 4: 3 times this sheet"))
         # Of 160000, three times 6000 is kept, and 2000 wasted.
-        self.assertEqual(lines[3], "waste 1.3 %; 3 offcuts kept, 11.3 %")
+        self.assertEqual(lines[3:5], ["no plan needs fewer sheets: proved", "waste 1.3 %; 3 offcuts kept, 11.3 %"])
 
     def test_offcuts_have_one_name(self) -> None:
         run = self.run_all()
@@ -84,6 +84,7 @@ class Sheets(Case):
 
     def test_sheets_with_the_same_panels_are_cut_as_the_best_of_them(self) -> None:
         """Whatever the search says: here two sheets have their panels in another order."""
+        from rectangle_pack import Section
         from rectangle_pack.commands._cut.alike import alike_of
         from rectangle_pack.commands._cut.job import Job, Kind, Laid, Panel
         from rectangle_pack.commands._cut.packing import Filled
@@ -94,8 +95,9 @@ class Sheets(Case):
                   for key, title, width, height in ((1, "a", 100, 40), (2, "b", 60, 100))]
         job = Job(panels, [kind], 0, (30, 30), Lengths(), Scale())
         # Beside a turned: 60 + 40 is 100, and nothing is left.
-        one, other = (Filled(kind, tuple(laid), "volume") for laid in (
-            (Laid(panels[1]), Laid(panels[0], True)), (Laid(panels[2], True), Laid(panels[3]))))
+        one, other = (Filled(kind, laid, places) for laid, places in (
+            ((Laid(panels[1]), Laid(panels[0], True)), (Section(0, 0, 0, 60, 100, 1), Section(60, 0, 0, 40, 100, 1))),
+            ((Laid(panels[2], True), Laid(panels[3])), (Section(0, 0, 0, 40, 100, 1), Section(40, 0, 0, 60, 100, 1)))))
         [alike] = alike_of(job, [one, other])
         self.assertEqual((alike.plan.count, alike.plan.waste), (2, 0))
         names = [sorted(part.name for part in sheet.panels) for sheet in alike.sheets]
@@ -125,7 +127,7 @@ class Sums(Case):
         run = self.cut_tables(f"{HEAD}a,2,100,50,keep\n", f"{SHEETS}s,,100,60,1.25\n", "--kerf", 0)
         self.assertEqual(run.out.splitlines(), [
             "2 panels from 2 sheets, cost 2.5", "  2 x s, 100 x 60, cost 2.5", "  sheets 1 to 2: 2 times this sheet",
-            "waste 16.7 %; 0 offcuts kept, 0.0 %", "2 cuts of 0.2 m together", f"4 files written to {run.folder}"])
+            "no plan needs fewer sheets: proved", "waste 16.7 %; 0 offcuts kept, 0.0 %", "2 cuts of 0.2 m together", f"4 files written to {run.folder}"])
         self.assertEqual(rows_of((run.folder / "offcuts.csv").read_text(encoding="utf-8")), [])
 
 

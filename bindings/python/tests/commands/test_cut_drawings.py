@@ -145,7 +145,7 @@ class Drawings(Case):
 
     def test_a_legend_that_is_too_long(self) -> None:
         run = self.cut(self.write("many.csv", HEAD + "".join(f"row {index},1,{90 + index},20,\n" for index in range(120))),
-                       *self.words, "--heuristic", "width", "--replace")
+                       *self.words, "--replace")
         [(_, root)] = self.drawn(run)
         texts = [it.text or "" for it in root.iter(f"{SVG}text")]
         [more] = [int(match.group(1)) for text in texts if (match := re.fullmatch(r"and (\d+) more", text))]

@@ -142,7 +142,7 @@ class Materials(Case):
 
     def test_a_panel_that_fits_no_sheet_is_named_before_the_first_search(self) -> None:
         stock = "width,height,cost,material\n10,10,1,oak\n10,10,1,ash\n"
-        with mock.patch("rectangle_pack.commands.cut.search", side_effect=AssertionError("a search has begun")):
+        with mock.patch("rectangle_pack.commands.cut.search_all", side_effect=AssertionError("a search has begun")):
             refused = self.refused("name,width,height,material\na,10,10,oak\nb,10,11,ash\n", stock)
         self.assertEqual(refused, (1, "ash: the panel 'b' of line 3, 10 x 11, fits no sheet"))
 

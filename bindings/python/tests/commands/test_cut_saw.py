@@ -13,8 +13,6 @@ from .test_cut_runs import Case, Run, check_panels, each, rows_of, saw_all, writ
 
 HEAD, SHEETS = "name,count,width,height,grain\n", "name,count,width,height,cost\n"
 
-HEURISTICS = ("volume", "height", "width", "depth", "side-sum", "longest-side", "shortest-side", "side-area")
-
 KERFS, TRIMS = ("0", "3", "3.2", "4.75"), ("0", "2", "10", "12.5")
 
 
@@ -138,7 +136,7 @@ class Saw(Case):
             with self.subTest(seed=seed):
                 paths = [self.write("p.csv", panels), "--stock", self.write("s.csv", stock)]
                 paths += ["--offcuts", self.write("o.csv", offcuts)]
-                words += ["--tries", "6", "--heuristic", chance.choice((*HEURISTICS, "best", "best"))]
+                words += ["--tries", chance.choice(("1", "50", "600"))]
                 run = self.cut(*paths, *words, "--json", out=f"plan{seed}")
                 self.check(run, panels, kerf)
                 self.check_stock(run, stock, offcuts)
@@ -230,8 +228,7 @@ class ByHand(Case):
         self.assertIn('Nothing is cut: the sheet is panel "a" 100 x 50 (turned)\n', text)
 
     def test_many_panels_on_a_sheet(self) -> None:
-        run = self.cut_tables(f"{HEAD}peg,800,7,5,free\n", f"{SHEETS}s,,500,400,1\n", "--kerf", "1", "--heuristic", "width",
-                              "--tries", "1")
+        run = self.cut_tables(f"{HEAD}peg,800,7,5,free\n", f"{SHEETS}s,,500,400,1\n", "--kerf", "1", "--tries", "1")
         self.assertEqual(sum(len(sheet.panels) for sheet in saw_all(run, 1)), 800)
 
 

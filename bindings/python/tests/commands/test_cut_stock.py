@@ -79,11 +79,6 @@ class Costs(Case):
         self.assertEqual((run.json["sums"]["cost"], names(run)), (11, {"lying": 1, "standing": 1}))
         check_panels(self, rows_of(panels), saw_all(run, 0))
 
-    def test_a_heuristic_by_name(self) -> None:
-        words = ["--kerf", 3, "--json", "--heuristic", "width"]
-        run = self.cut_tables(f"{HEAD}a,9,300,200,free\n", f"{SHEETS}s,,700,500,1\n", *words)
-        self.assertEqual({sheet["heuristic"] for sheet in run.json["sheets"]}, {"width"})
-
 
 class Offcuts(Case):
     def test_those_of_a_run_are_the_stock_of_the_next(self) -> None:

@@ -187,7 +187,9 @@ class Refusals(Case):
             (("--kerf", "3", "--trim", "nan"), f"--trim is 'nan', {number}"),
             (("--kerf", "3", "--keep", "300"), "--keep is '300', and must be a width and a height in mm, as 200x200"),
             (("--kerf", "3", "--keep", "300xtwo"), f"--keep is 'two', {number}"),
-            (("--kerf", "3", "--tries", "0"), "--tries is 0, and must be at least 1"),
+            (("--kerf", "3", "--tries", "0"), f"--tries is 0, and must be from 1 to {2**63 - 1}"),
+            (("--kerf", "3", "--seconds", "0"), "--seconds is 0, and must be more than 0, and less than a billion"),
+            (("--kerf", "3", "--seconds", "nan"), "--seconds is nan, and must be more than 0, and less than a billion"),
             (("--kerf", "3", "--job", " "), "--job is empty, and must be a name"),
         ):
             with self.subTest(words=words):
@@ -196,7 +198,7 @@ class Refusals(Case):
                          "there is nothing to cut from: name --stock, --offcuts or both")
 
     def test_words_that_the_parser_refuses(self) -> None:
-        for words in ((), ("--kerf",), ("--kerf", "3", "--tries", "many"), ("--kerf", "3", "--heuristic", "luck")):
+        for words in ((), ("--kerf",), ("--kerf", "3", "--tries", "many"), ("--kerf", "3", "--seconds", "long")):
             run = self.cut(self.write("p.csv", PANELS), "--stock", self.write("s.csv", STOCK), *words)
             self.assertEqual((run.status, run.out, run.folder.exists()), (2, "", False))
 

@@ -4,7 +4,7 @@ from __future__ import annotations
 from collections.abc import Iterable, Sequence
 from dataclasses import dataclass, replace
 
-from .job import Job, Laid, Panel
+from .job import Job
 from .packing import Filled
 from .plan import Cut, Part, SheetPlan
 from .saw import sawn
@@ -19,14 +19,6 @@ class Alike:
 
     plan: SheetPlan
     sheets: Sequence[SheetPlan]
-
-
-def _with_panels_of(filled: Filled, other: Filled) -> Filled:
-    """A sheet with the panels of another one, which come from the same lines of the list."""
-    waiting: dict[int, list[Panel]] = {}
-    for it in reversed(other.laid):
-        waiting.setdefault(it.panel.key, []).append(it.panel)
-    return filled._replace(laid=tuple(Laid(waiting[it.panel.key].pop(), it.is_turned) for it in filled.laid))
 
 
 def _without_number(part: Part | None) -> Part | None:
@@ -53,7 +45,7 @@ def _group(job: Job, several: Sequence[Filled], first: int) -> Alike:
     best = min(plans, key=lambda plan: (plan.waste, len(plan.cuts), plan.cut_length)).filled
     sheets = []
     for number, it in enumerate(several, first):
-        sheets.append(replace(sawn(job, _with_panels_of(best, it), first), number=number))
+        sheets.append(replace(sawn(job, best.with_panels_of(it), first), number=number))
     return Alike(_shared(sheets[0], len(sheets)), sheets)
 
 
@@ -61,8 +53,7 @@ def alike_of(job: Job, filled: Iterable[Filled]) -> list[Alike]:
     """The sheets, in the order in which the first ones of those that are cut alike come."""
     groups: dict[object, list[Filled]] = {}
     for it in filled:
-        key = id(it.kind), tuple(sorted(laid.panel.key for laid in it.laid))
-        groups.setdefault(key, []).append(it)
+        groups.setdefault(it.content, []).append(it)
     found, first = [], 1
     for several in groups.values():
         found.append(_group(job, several, first))

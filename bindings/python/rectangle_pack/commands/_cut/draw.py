@@ -119,13 +119,10 @@ class _Drawing:
     def blade(self, cut: Cut) -> Area:
         """What the blade takes, widened where it would not be seen."""
         rect, (near, far) = cut.part.rect, cut.blade
-        if cut.axis == "x":
-            it = self.area(Rect(near, rect.y, far - near, rect.height))
-            wide = max(it.width, 0.2)
-            return Area(it.x - (wide - it.width) / 2, it.y, wide, it.height)
-        it = self.area(Rect(rect.x, near, rect.width, far - near))
-        high = max(it.height, 0.2)
-        return Area(it.x, it.y - (high - it.height) / 2, it.width, high)
+        taken = Rect(near, rect.y, far - near, rect.height) if cut.axis == "x" else Rect(rect.x, near, rect.width, far - near)
+        it = self.area(taken)
+        wide, high = max(it.width, 0.2), max(it.height, 0.2)
+        return Area(it.x - (wide - it.width) / 2, it.y - (high - it.height) / 2, wide, high)
 
     def cuts(self) -> None:
         """The cuts, and their numbers where there is room for them."""

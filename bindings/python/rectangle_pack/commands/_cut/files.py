@@ -13,15 +13,15 @@ from .pdf import pdf_of
 from .result import Result, Results
 from .svg import svg_of
 from .text import plan_text, stem_of
-from .written import buy_table, offcuts_table
+from .written import buy_table, left_table, offcuts_table
 
 __all__ = ["earlier", "files_of", "write_all"]
 
-OFFCUTS, BUY = "offcuts.csv", "buy.csv"
+OFFCUTS, BUY, LEFT = "offcuts.csv", "buy.csv", "left.csv"
 
 # What a run writes to its folder, and to those of materials in it.
 PLANS = re.compile(r"sheet-[0-9]+(-to-[0-9]+)?\.(txt|svg)|plan\.pdf")
-TABLES = re.compile(r"offcuts\.csv|buy\.csv")
+TABLES = re.compile(r"(offcuts|buy|left)\.csv")
 FOLDER = re.compile(r"material-.+")
 
 
@@ -60,7 +60,8 @@ def files_of(results: Results, has_pdf: bool) -> dict[str, bytes | str]:
     files: dict[str, bytes | str] = {}
     for it, folder in zip(results.planned, _folders(results)):
         files.update(_of_result(it, folder, has_pdf))
-    return {**files, BUY: buy_table(results), OFFCUTS: offcuts_table(results)}
+    left = {LEFT: left_table(results)} if results.left else {}
+    return {**files, **left, BUY: buy_table(results), OFFCUTS: offcuts_table(results)}
 
 
 def earlier(folder: Path) -> list[Path]:

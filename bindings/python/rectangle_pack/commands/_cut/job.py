@@ -6,9 +6,10 @@ from dataclasses import dataclass, field
 from itertools import count
 
 from .._scale import Scale
+from .lines import Line
 from .unit import Lengths
 
-__all__ = ["Batch", "Job", "Kind", "Laid", "Material", "Panel", "Work"]
+__all__ = ["Job", "Kind", "Laid", "Material", "Panel", "Work"]
 
 
 @dataclass(frozen=True)
@@ -82,31 +83,12 @@ class Kind:
     def area(self) -> int:
         return self.width * self.height
 
-    @property
-    def is_given(self) -> bool:
-        """Whether it is an offcut that costs nothing."""
-        return self.is_offcut and not self.cost
-
     def takes(self, width: int, height: int) -> bool:
         across, along = self.usable
         return width <= across and height <= along
 
-
-class Batch:
-    """Panels of one size that may be turned alike. In a packing they stand for each other."""
-
-    def __init__(self, panels: Sequence[Panel]) -> None:
-        self.width, self.height = panels[0].width, panels[0].height
-        self.can_turn = panels[0].is_free and self.width != self.height
-        self.straight = [Laid(panel) for panel in panels]
-        self.turned = [Laid(panel, True) for panel in panels]
-
-    def __len__(self) -> int:
-        return len(self.straight)
-
-    @property
-    def area(self) -> int:
-        return self.width * self.height * len(self)
+    def holds(self, panel: Panel) -> bool:
+        return self.takes(panel.width, panel.height) or panel.is_free and self.takes(panel.height, panel.width)
 
 
 @dataclass(frozen=True, eq=False)
@@ -159,3 +141,5 @@ class Work:
     has_thicknesses: bool
     # What is passed over, in a line; else nothing.
     note: str
+    # The lines of the cutting list, by the keys of panels less one.
+    lines: Sequence[Line]

@@ -16,6 +16,9 @@ NAME_SIZES, MEASURE_SIZES, KEY_SIZES = (3.6, 3.0, 2.5, 2.1), (2.8, 2.4), (3.0, 2
 # The whole name, without the number of the panel, or cut short.
 Form = Literal["whole", "plain", "short"]
 
+# Where the measures are, if they are there.
+Way = Literal["two lines", "one line", "alone"]
+
 # What stays free between the text and an edge.
 EDGE = 0.6
 
@@ -56,44 +59,21 @@ def _at_edges(words: Words, area: Area) -> list[Text]:
     return []
 
 
-def _long_and_high(area: Area, is_upright: bool) -> tuple[float, float]:
-    """The room for text along its line and across it."""
+def _along(words: Words, area: Area, form: Form, way: Way, size: float, is_upright: bool) -> list[Text]:
+    """The name, where it has room: with the measures below it, or in its line, or without them. For measures in
+    its line it is not cut short."""
     long, high = (area.height, area.width) if is_upright else (area.width, area.height)
-    return long - 2 * EDGE, high
-
-
-def _in_lines(words: Words, area: Area, size: float, is_upright: bool, form: Form) -> list[Text]:
-    """The name, and below it the measures."""
-    long, high = _long_and_high(area, is_upright)
-    name = _name(words, long, size, form)
-    if not name or text_width(words.size, size) > long or 2 * size * LINE_HEIGHT > high - 2 * EDGE:
+    long, line, is_two = long - 2 * EDGE, size * LINE_HEIGHT, way == "two lines"
+    measures = f"  {words.size}" if way == "one line" else ""
+    name = "" if measures and form == "short" else _name(words, long - text_width(measures, size), size, form)
+    if not name or (2 * (line + EDGE) if is_two else line) > high or is_two and text_width(words.size, size) > long:
         return []
     across, along = area.middle
-    step = size * LINE_HEIGHT / 2
-    if is_upright:
-        return [Text(across - step, along, name, size, words.colour, is_bold=True, is_upright=True),
-                Text(across + step, along, words.size, size, words.colour, is_upright=True)]
-    return [Text(across, along - step, name, size, words.colour, is_bold=True),
-            Text(across, along + step, words.size, size, words.colour)]
-
-
-def _in_one_line(words: Words, area: Area, size: float, is_upright: bool, form: Form) -> list[Text]:
-    """The name and the measures in a line. It is not cut short for these."""
-    long, high = _long_and_high(area, is_upright)
-    measures = f"  {words.size}"
-    name = "" if form == "short" else _name(words, long - text_width(measures, size), size, form)
-    if not name or size * LINE_HEIGHT > high:
-        return []
-    return [Text(*area.middle, name + measures, size, words.colour, is_upright=is_upright)]
-
-
-def _alone(words: Words, area: Area, size: float, is_upright: bool, form: Form) -> list[Text]:
-    """The name, and no more."""
-    long, high = _long_and_high(area, is_upright)
-    name = _name(words, long, size, form)
-    if not name or size * LINE_HEIGHT > high:
-        return []
-    return [Text(*area.middle, name, size, words.colour, is_bold=True, is_upright=is_upright)]
+    if not is_two:
+        return [Text(across, along, name + measures, size, words.colour, is_bold=not measures, is_upright=is_upright)]
+    x, y = (line / 2, 0.0) if is_upright else (0.0, line / 2)
+    return [Text(across - x, along - y, name, size, words.colour, is_bold=True, is_upright=is_upright),
+            Text(across + x, along + y, words.size, size, words.colour, is_upright=is_upright)]
 
 
 def _name(words: Words, long: float, size: float, form: Form) -> str:
@@ -116,12 +96,11 @@ def _key(words: Words, area: Area) -> list[Text]:
 
 # From what says the most to what says the least.
 FORMS: tuple[Form, ...] = get_args(Form)
-WAYS = (_in_lines, _in_one_line, _alone)
+WAYS: tuple[Way, ...] = get_args(Way)
 
 
 def label(words: Words, area: Area) -> list[Text]:
     """What is written on this area: nothing, where there is no room for the key."""
     # Along the longer side where that is what makes it fit.
-    several = product(FORMS, WAYS, NAME_SIZES[1:], (False, True))
-    found = (way(words, area, size, is_upright, form) for form, way, size, is_upright in several)
+    found = (_along(words, area, *it) for it in product(FORMS, WAYS, NAME_SIZES[1:], (False, True)))
     return _at_edges(words, area) or next(filter(None, found), []) or _key(words, area)

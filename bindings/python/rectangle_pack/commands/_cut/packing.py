@@ -1,34 +1,55 @@
-"""Packs panels into sheets by the library. Each panel is packed as a box that is larger by the kerf."""
+"""Panels and sheets as the library is told them. Each panel is a box that is larger by the kerf."""
 from __future__ import annotations
 
-from collections.abc import Sequence
-from typing import NamedTuple
+from collections.abc import Iterable, Sequence
+from math import gcd
+from typing import Any, NamedTuple
 
-from ... import Bin, Box, Heuristic, pack
-from .._scale import MOST
-from .job import Kind, Laid
+from ... import Bin, Box, Packing, Placement, Progress, Section, Turn, least_bins, pack
+from ..._numbers import MOST_OF_64
+from ..._types import Asked
+from .job import Job, Kind, Laid, Panel
 
-__all__ = ["Filled", "Packed", "fill", "inflated", "room"]
+__all__ = ["Filled", "Packed", "Packer", "Rough", "box_of", "room", "turn_of"]
 
 
 class Filled(NamedTuple):
-    """A sheet with the panels that are packed into it, in the order in which the library was given them."""
+    """A sheet with the panels that are packed into it, and where these stand in its bin."""
 
     kind: Kind
     laid: tuple[Laid, ...]
-    heuristic: Heuristic
+    places: tuple[Section, ...]
+
+    @property
+    def content(self) -> object:
+        """Sheets with equal contents can be cut alike: they are of a kind, and their panels come from the same lines."""
+        return id(self.kind), tuple(sorted(it.panel.key for it in self.laid))
+
+    def with_panels_of(self, other: Filled) -> Filled:
+        """This sheet with the panels of one that has an equal content."""
+        waiting: dict[int, list[Panel]] = {}
+        for it in reversed(other.laid):
+            waiting.setdefault(it.panel.key, []).append(it.panel)
+        return self._replace(laid=tuple(Laid(waiting[it.panel.key].pop(), it.is_turned) for it in self.laid))
+
+
+class Rough(NamedTuple):
+    """How good a packing is, before its sheets are sawn. Less is better, the first first."""
+
+    # The area of the panels that found no room, with their kerfs.
+    left: int
+    cost: int
+    sheets: int
 
 
 class Packed(NamedTuple):
     """Sheets with panels, and the panels that found no room."""
 
-    sheets: tuple[Filled, ...]
-    left: tuple[Laid, ...]
-
-
-def inflated(laid: Laid, kerf: int) -> Box:
-    """A panel with the kerf on its right and upper side."""
-    return Box(laid.width + kerf, laid.height + kerf)
+    sheets: Sequence[Filled] = ()
+    left: Sequence[Panel] = ()
+    rough: Rough = Rough(0, 0, 0)
+    # How many sheets are needed, whatever plan is made. None where panels are left, or no search was made.
+    least: int | None = None
 
 
 def room(kind: Kind, kerf: int) -> Bin:
@@ -38,41 +59,59 @@ def room(kind: Kind, kerf: int) -> Bin:
     return Bin(width + kerf, height + kerf)
 
 
-def _spill(boxes: Sequence[Box], bins: Sequence[Bin]) -> list[Bin]:
-    """Bins that take all of the boxes which find no room. No heuristic rates them below the others, so they come last.
-
-    Where a free section has m times the longest side both ways, one with m - 1 times is left beside the next box. So a bin
-    with n + 1 times takes n boxes. Where 32 bits do not hold it there are several."""
-    longest = max(max(box.width, box.height) for box in boxes)
-    side = min(max((len(boxes) + 1) * longest, *(max(it.width, it.height) for it in bins)), MOST)
-    each = max(side // longest - 1, 1)
-    return [Bin(side, side)] * -(-len(boxes) // each)
+def box_of(panel: Panel, kerf: int) -> Box:
+    """A panel with the kerf on its right and upper side."""
+    return Box(panel.width + kerf, panel.height + kerf)
 
 
-def _one_stage(
-    kinds: Sequence[Kind], laid: Sequence[Laid], heuristic: Heuristic, kerf: int,
-) -> tuple[list[Filled], list[Laid]]:
-    """Packs into these sheets what finds room in them."""
-    kinds = [kind for kind in kinds if all(kind.usable)]
-    if not (kinds and laid):
-        return [], list(laid)
-    bins = [room(kind, kerf) for kind in kinds]
-    boxes = [inflated(it, kerf) for it in laid]
-    by_sheet: dict[int, list[Laid]] = {}
-    left = []
-    for it, place in zip(laid, pack(bins + _spill(boxes, bins), boxes, heuristic=heuristic)):
-        if place.bin < len(kinds):
-            by_sheet.setdefault(place.bin, []).append(it)
-        else:
-            left.append(it)
-    return [Filled(kinds[sheet], tuple(on), heuristic) for sheet, on in sorted(by_sheet.items())], left
+def turn_of(panel: Panel) -> Turn:
+    return "flat" if panel.is_free else "none"
 
 
-def fill(stages: Sequence[Sequence[Kind]], laid: Sequence[Laid], heuristic: Heuristic, kerf: int) -> Packed:
-    """Packs into the sheets of the first stage what finds room there, the rest into those of the second, and so on."""
-    sheets: list[Filled] = []
-    left = list(laid)
-    for kinds in stages:
-        more, left = _one_stage(kinds, left, heuristic, kerf)
-        sheets += more
-    return Packed(tuple(sheets), tuple(left))
+class Packer:
+    """Has the panels of a job packed by the library's search."""
+
+    def __init__(self, job: Job) -> None:
+        self.job = job
+        self.kinds = [kind for kind in job.kinds if kind.count != 0 and any(map(kind.holds, job.panels))]
+        self.boxes = [box_of(panel, job.kerf) for panel in job.panels]
+        self.turns = [turn_of(panel) for panel in job.panels]
+        # Of packings that cost as much the one with fewer sheets is better. So each sheet costs a little more than it does: 2,
+        # as a search for bins that cost 1 ends where there are few enough, however they are filled.
+        self.unit = gcd(*(kind.cost for kind in self.kinds)) or 1
+        most = max((kind.cost for kind in self.kinds), default=0) // self.unit
+        self.factor = min(2 * len(self.boxes) + 1, (MOST_OF_64 - 2) // max(most, 1))
+
+    def bins(self, kinds: Iterable[Kind]) -> list[Bin]:
+        """Sheets as bins, with what they cost. No more are used than there are panels."""
+        return [
+            room(kind, self.job.kerf)._replace(
+                count=None if kind.count is None or kind.count >= len(self.boxes) else kind.count,
+                cost=kind.cost // self.unit * self.factor + 2)
+            for kind in kinds]
+
+    def rough(self, told: Progress) -> Rough:
+        """How good the best packing is of which a search tells."""
+        return Rough(told.left_cells, (told.cost - 2 * told.bins) // self.factor * self.unit, told.bins)
+
+    def packed(self, kinds: Sequence[Kind], tries: int, seed: int, asked: Asked) -> Packed:
+        """The best packing of a search."""
+        packing = pack(self.bins(kinds), self.boxes, partial=True, tries=tries, seed=seed, turn=self.turns, progress=asked)
+        by_sheet: dict[tuple[int, int], list[Placement[int, int]]] = {}
+        for it in packing:
+            by_sheet.setdefault((it.bin, it.copy), []).append(it)
+        sheets = [filled(kinds[bin], self.job.panels, places) for (bin, _), places in sorted(by_sheet.items())]
+        left = [self.boxes[it.name] for it in packing.left]
+        rough = Rough(sum(it.width * it.height for it in left), sum(it.kind.cost for it in sheets), len(sheets))
+        return Packed(sheets, [self.job.panels[it.name] for it in packing.left], rough)
+
+    def least(self) -> int | None:
+        """How many sheets are needed, whatever plan is made. None where no plan has all panels."""
+        return least_bins(self.bins(self.kinds), self.boxes, turn=self.turns)
+
+
+def filled(kind: Kind, panels: Sequence[Panel], places: Iterable[Placement[int, Any]]) -> Filled:
+    """A sheet in which these of the panels stand."""
+    placed = list(places)
+    return Filled(
+        kind, tuple(Laid(panels[it.name], it.turned) for it in placed), tuple(it.section for it in placed))

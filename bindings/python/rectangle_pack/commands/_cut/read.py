@@ -7,7 +7,7 @@ from dataclasses import dataclass
 from decimal import Decimal
 from pathlib import Path
 
-from .._common import NoRoom, Wrong
+from .._common import Wrong
 from .._scale import MOST, Scale, decimals_of
 from .job import Job, Kind, Material, Panel, Work
 from .lines import Line, Table, panel_table, printable, sheet_table, why_not
@@ -166,14 +166,6 @@ def _jobs(name: str, panels: Sequence[Line], sheets: Sequence[Line], sizes: Size
         for material, own, kinds in by_key.values()]
 
 
-def _check_sheets(jobs: Sequence[Job]) -> None:
-    """Raises NoRoom where there are panels of a material, and no sheets."""
-    for job in jobs:
-        if job.panels and not job.kinds:
-            panel = job.panels[0]
-            raise NoRoom(f"the panel {panel.name!r} of line {panel.line} is of {job.of}, and no sheet is")
-
-
 def _note(tables: Sequence[Table]) -> str:
     """Which columns are passed over."""
     passed = [f"{', '.join(map(repr, dict.fromkeys(it.passed)))} of {it.path}" for it in tables if it.passed]
@@ -189,8 +181,7 @@ def read_work(name: str, paths: Tables, sizes: Sizes) -> Work:
     tables = [panels, *sheets]
     _check_columns(tables)
     jobs = _jobs(name, panels.lines, [line for it in sheets for line in it.lines], sizes)
-    _check_sheets(jobs)
     first = panels.lines[0]
     return Work(
         name, [job for job in jobs if job.panels], [job for job in jobs if job.kinds and not job.panels],
-        "material" in first.row.values, first.thickness is not None, _note(tables))
+        "material" in first.row.values, first.thickness is not None, _note(tables), panels.lines)

@@ -3,11 +3,11 @@ from __future__ import annotations
 
 from collections import Counter
 from collections.abc import Iterable, Sequence
-from dataclasses import dataclass, field
+from dataclasses import dataclass
 from functools import cached_property
 
 from .alike import Alike
-from .job import Job, Kind, Work
+from .job import Job, Kind, Panel, Work
 from .plan import SheetPlan
 
 __all__ = ["Result", "Results", "Sums", "percent"]
@@ -53,7 +53,10 @@ class Result:
     """The sheets of one material."""
 
     job: Job
-    alike: Sequence[Alike] = field(default_factory=tuple)
+    alike: Sequence[Alike] = ()
+    # The panels that no sheet takes, and how many sheets are needed, whatever plan is made, where that is known.
+    left: Sequence[Panel] = ()
+    least: int | None = None
 
     @property
     def plans(self) -> list[SheetPlan]:
@@ -68,6 +71,11 @@ class Result:
     @cached_property
     def sums(self) -> Sums:
         return sums_of(self.sheets)
+
+    @property
+    def is_optimal(self) -> bool:
+        """Whether it is proved that no plan needs fewer sheets."""
+        return self.least is not None and self.sums.sheets <= self.least
 
     @property
     def used(self) -> list[tuple[Kind, int]]:
@@ -94,6 +102,10 @@ class Results:
     def planned(self) -> list[Result]:
         """Those with sheets."""
         return [it for it in self.results if it.alike]
+
+    @property
+    def left(self) -> list[Panel]:
+        return [panel for it in self.results for panel in it.left]
 
     @cached_property
     def sums(self) -> Sums:

@@ -10,61 +10,19 @@ Where a - p is k or less there is no material behind the blade, which takes all 
 It does not count where the part begins. So strips that lie side by side may change places, each with all that is in it."""
 from __future__ import annotations
 
-from collections.abc import Container, Iterator, Sequence
+from collections.abc import Iterator, Sequence
+from itertools import count, product
+from string import ascii_uppercase
 from typing import NamedTuple
 
-from ... import Bin, Box, CutNode, CutTree, Heuristic, Section, Session
+from ... import Axis, Bin, CutNode, CutTree, Section, straight_cuts
+from ..._cuts import tree_of
 from .._sawing import Edge, FlatAxis
 from .job import Job, Kind
-from .packing import Filled, inflated, room
+from .packing import Filled, room
 from .plan import Cut, Part, Rect, SheetPlan
 
 __all__ = ["sawn"]
-
-
-class _Strip(NamedTuple):
-    """One of the parts of the bin that cuts across one axis leave side by side: its size along that axis, kerf included, and
-    whether that could be less."""
-
-    node: CutTree
-    section: Section
-    size: int
-    is_loose: bool
-
-
-def _letters() -> Iterator[str]:
-    """A, B, .. Z, AA, AB, .."""
-    number = 0
-    while True:
-        number += 1
-        word, rest = "", number
-        while rest:
-            rest, letter = divmod(rest - 1, 26)
-            word = chr(ord("A") + letter) + word
-        yield word
-
-
-def _plan_of(bin: Bin, boxes: Sequence[Box], heuristic: Heuristic) -> tuple[CutTree, list[Section]]:
-    """The library's cutting plan of a bin with these boxes, and where they stand. Free sections are joined first, which makes
-    for fewer cuts and larger offcuts; but then there may be no plan. Without joins there always is one."""
-    for joins in (True, False):
-        with Session([bin]) as session:
-            sections = [place.section for place in session.pack(boxes, heuristic=heuristic)]
-            if joins:
-                session.coalesce_all(0)
-            tree = session.cut_tree(0)
-        if tree is not None:
-            return tree, sections
-    raise AssertionError("a bin without joined sections has a plan")
-
-
-def _halves(part: Section, axis: str, place: int) -> tuple[Section, Section]:
-    """The two parts that a cut leaves of a part of the bin."""
-    if axis == "x":
-        below = place - part.x
-        return part._replace(width=below), part._replace(x=place, width=part.width - below)
-    below = place - part.y
-    return part._replace(height=below), part._replace(y=place, height=part.height - below)
 
 
 class _Slack(NamedTuple):
@@ -74,36 +32,62 @@ class _Slack(NamedTuple):
     y: int
 
 
-def _joined(node: CutNode, halves: tuple[Section, Section], lower: _Slack | None, upper: _Slack | None) -> _Slack | None:
-    """The slack of a part, by that of its two parts. A part without panels has none, and is free as a whole."""
-    if lower is None and upper is None:
-        return None
-    both = [slack for slack in (lower, upper) if slack is not None]
-    free = [half for half, slack in zip(halves, (lower, upper)) if slack is None]
-    if node.axis == "x":
-        return _Slack(sum(it.x for it in both) + sum(it.width for it in free), min(it.y for it in both))
-    return _Slack(min(it.x for it in both), sum(it.y for it in both) + sum(it.height for it in free))
+class _Node(NamedTuple):
+    """A part of the bin: across which axis it is cut, if it is, and into which parts. A part without panels has no slack, and
+    is free as a whole."""
+
+    section: Section
+    slack: _Slack | None
+    axis: Axis | None = None
+    parts: tuple[_Node, ...] = ()
+
+    def size(self, axis: str) -> int:
+        return self.section.width if axis == "x" else self.section.height
+
+    def is_loose(self, axis: str) -> bool:
+        """Whether the size could be less."""
+        return self.slack is not None and (self.slack.x if axis == "x" else self.slack.y) > 0
 
 
-def _slacks(tree: CutTree, whole: Section, panels: Container[Section]) -> dict[int, _Slack]:
-    """By their ids, the nodes of the tree in which there are panels. It may be deep: so there is no recursion."""
-    waiting, nodes = [(tree, whole)], []
+def _letters() -> Iterator[str]:
+    """A, B, .. Z, AA, AB, .."""
+    return ("".join(it) for length in count(1) for it in product(ascii_uppercase, repeat=length))
+
+
+def _joined(axis: Axis, lower: _Node, upper: _Node) -> _Node:
+    """The part that is cut into these two."""
+    x, y, z, width, height, depth = lower.section
+    both = [it.slack for it in (lower, upper) if it.slack]
+    free = [it.section for it in (lower, upper) if it.slack is None]
+    slack = None
+    if axis == "x":
+        whole = Section(x, y, z, width + upper.section.width, height, depth)
+        if both:
+            slack = _Slack(sum(it.x for it in both) + sum(it.width for it in free), min(it.y for it in both))
+    else:
+        whole = Section(x, y, z, width, height + upper.section.height, depth)
+        if both:
+            slack = _Slack(min(it.x for it in both), sum(it.y for it in both) + sum(it.height for it in free))
+    return _Node(whole, slack, axis, (lower, upper))
+
+
+def _plan_of(bin: Bin, places: Sequence[Section]) -> _Node:
+    """The library's cutting plan of a bin in which panels stand. It may be deep: so there is no recursion."""
+    steps, panels = straight_cuts(bin, places), {*places}
+    assert steps is not None, "a packing of the library has a plan"
+    waiting, order = [tree_of(steps, Section(0, 0, 0, bin.width, bin.height, 1))], list[CutTree]()
     while waiting:
-        node, section = waiting.pop()
-        nodes.append((node, section))
-        if isinstance(node, CutNode):
-            waiting += zip((node.lower, node.upper), _halves(section, node.axis, node.place))
-    found: dict[int, _Slack] = {}
-    for node, section in reversed(nodes):
-        slack: _Slack | None = None
-        if isinstance(node, CutNode):
-            halves = _halves(section, node.axis, node.place)
-            slack = _joined(node, halves, found.get(id(node.lower)), found.get(id(node.upper)))
-        elif node in panels:
-            slack = _Slack(0, 0)
-        if slack is not None:
-            found[id(node)] = slack
-    return found
+        tree = waiting.pop()
+        order.append(tree)
+        if isinstance(tree, CutNode):
+            waiting += [tree.upper, tree.lower]
+    nodes: list[_Node] = []
+    for tree in reversed(order):
+        if isinstance(tree, CutNode):
+            nodes.append(_joined(tree.axis, nodes.pop(), nodes.pop()))
+        else:
+            nodes.append(_Node(tree, _Slack(0, 0) if tree in panels else None))
+    return nodes.pop()
 
 
 def _trims(kind: Kind, kerf: int) -> Iterator[tuple[Edge, FlatAxis, int, Rect, Rect]]:
@@ -127,37 +111,14 @@ class _Saw:
         self.cuts: list[Cut] = []
         self.panels: list[Part] = []
         self.offcuts: list[Part] = []
-        bin = room(self.kind, job.kerf)
-        self.tree, sections = _plan_of(bin, [inflated(it, job.kerf) for it in filled.laid], filled.heuristic)
-        self.laid = dict(zip(sections, filled.laid))
-        self.whole = Section(0, 0, 0, bin.width, bin.height, 1)
-        self.slacks = _slacks(self.tree, self.whole, self.laid)
+        self.tree = _plan_of(room(self.kind, job.kerf), filled.places)
+        self.laid = dict(zip(filled.places, filled.laid))
 
-    def strips(self, node: CutNode, section: Section) -> tuple[list[_Strip], bool]:
-        """The strips with panels that cuts across one axis leave, and whether there is more than these. The widest come first,
-        so that equal ones follow each other; but those whose width does not count after those whose does. So a strip that is
-        not measured, as it is what is left in the end, is one of these, where there is one."""
-        strips: list[_Strip] = []
-        has_rest = False
-        waiting: list[tuple[CutTree, Section]] = [(node, section)]
-        while waiting:
-            it, part = waiting.pop()
-            if id(it) not in self.slacks:
-                has_rest = True
-            elif isinstance(it, CutNode) and it.axis == node.axis:
-                lower, upper = _halves(part, it.axis, it.place)
-                waiting += [(it.upper, upper), (it.lower, lower)]
-            else:
-                slack = self.slacks[id(it)]
-                size, is_loose = (part.width, slack.x > 0) if node.axis == "x" else (part.height, slack.y > 0)
-                strips.append(_Strip(it, part, size, is_loose))
-        return sorted(strips, key=lambda it: (it.is_loose, -it.size)), has_rest
-
-    def part(self, node: CutTree, rect: Rect) -> Part:
+    def part(self, node: _Node, rect: Rect) -> Part:
         """The material that a part of the bin with panels stands for."""
-        if isinstance(node, CutNode):
+        if node.parts:
             return Part("part", next(self.letters), rect)
-        laid = self.laid[node]
+        laid = self.laid[node.section]
         self.panels.append(Part("panel", laid.panel.name, rect, laid))
         return self.panels[-1]
 
@@ -189,21 +150,21 @@ class _Saw:
             self.cuts.append(Cut(part, axis, near, near + self.job.kerf, *parts, edge))
             part = rest
 
-    def cut_off(self, part: Part, node: CutNode, section: Section) -> list[tuple[_Strip, Part]]:
+    def cut_off(self, part: Part, node: _Node) -> list[tuple[_Node, Part]]:
         """Cuts the strips of a part off, one by one, and answers them."""
         kerf, axis = self.job.kerf, _flat(node)
-        strips, has_rest = self.strips(node, section)
+        strips, has_rest = _strips(node)
         parts = []
         left: Part | None = part
         # Where there is no rest, the last strip is left over when the others are off.
         for index, strip in enumerate(strips if has_rest else strips[:-1], 1):
             assert left
-            before, behind = left.rect.halves(axis, strip.size - kerf, kerf)
-            lower = self.part(strip.node, before)
+            before, behind = left.rect.halves(axis, strip.size(axis) - kerf, kerf)
+            lower = self.part(strip, before)
             if index == len(strips):
                 upper = self.rest(behind)
             elif index == len(strips) - 1 and not has_rest:
-                upper = self.part(strips[-1].node, behind)
+                upper = self.part(strips[-1], behind)
             else:
                 upper = Part("part", next(self.letters), behind)
             near = before.x + before.width if axis == "x" else before.y + before.height
@@ -221,16 +182,31 @@ class _Saw:
         whole = self.part(self.tree, Rect(self.kind.trim, self.kind.trim, width, height))
         if self.kind.trim:
             self.trim(whole)
-        waiting = [(self.tree, self.whole, whole)]
+        waiting = [(self.tree, whole)]
         while waiting:
-            node, section, part = waiting.pop()
-            if isinstance(node, CutNode):
-                strips = self.cut_off(part, node, section)
-                waiting += [(strip.node, strip.section, it) for strip, it in reversed(strips)]
+            node, part = waiting.pop()
+            if node.parts:
+                waiting += reversed(self.cut_off(part, node))
 
 
-def _flat(node: CutNode) -> FlatAxis:
+def _flat(node: _Node) -> FlatAxis:
     return "x" if node.axis == "x" else "y"
+
+
+def _strips(node: _Node) -> tuple[list[_Node], bool]:
+    """The strips with panels that cuts across one axis leave, side by side, and whether there is more than these. The widest
+    come first, so that equal ones follow each other; but those whose width does not count after those whose does. So a strip
+    that is not measured, as it is what is left in the end, is one of these, where there is one."""
+    axis, strips, has_rest, waiting = _flat(node), list[_Node](), False, [node]
+    while waiting:
+        it = waiting.pop()
+        if it.slack is None:
+            has_rest = True
+        elif it.axis == node.axis:
+            waiting += reversed(it.parts)
+        else:
+            strips.append(it)
+    return sorted(strips, key=lambda it: (it.is_loose(axis), -it.size(axis))), has_rest
 
 
 def sawn(job: Job, filled: Filled, number: int = 0) -> SheetPlan:

@@ -1,175 +1,145 @@
-"""Looks for the cheapest sheets that take all panels.
+"""Looks for the cheapest sheets that take all panels, by searches of the library, one after the other.
 
-It is a search by trial: it may miss what is best. A try turns the panels in one way, offers them a set of sheets, and packs by
-each heuristic. Offcuts that cost nothing are filled first.
-
-1. Each kind of sheet in turn is filled as far as it goes, and then the others, those with the least cost for their area first;
-   with each of the first turnings. The best of these takes all panels. Where none does, panels are turned one by one, and
-   where that does not help the stock is used up.
-2. Sets of sheets that would be cheaper, and whose area is enough, are tried with each of the first turnings. First those of
-   which no cheaper one is as roomy: the one in the middle, then the cheaper or the dearer half, by whether it took all. Then
-   the others, the roomiest first. A set that is part of one that failed is passed over.
-3. Of the sets that failed, those that came nearest are tried again: panels are turned, a batch of equal ones or one, and each
-   turn is kept by which more finds room.
-4. Offcuts are left out, where the other sheets take all.
-5. With the tries that remain panels are turned in the best packing, for fewer sheets, less waste and fewer cuts: from each of
-   the first turnings on, and then from others, drawn by chance with a fixed seed.
-6. Each sheet is packed again by each heuristic with each of the first turnings of its panels, for the same."""
+The first has half of the tries, and all kinds of sheets. Where there are several kinds, others follow in which each of them is
+the only one that is bought. Those that remain begin anew, for less waste and fewer cuts. After each the sheets are packed
+closer."""
 from __future__ import annotations
 
-from collections.abc import Sequence
-from fractions import Fraction
+import time
+from collections.abc import Iterator, Sequence
+from dataclasses import replace
+from typing import NamedTuple
 
-from ... import Heuristic
 from .._common import NoRoom
-from .fits import check_each_fits, holds
-from .job import Job, Kind
-from .packing import Filled
-from .score import Answer
-from .sets import SheetSet, area_needed, area_of, cheaper_sets, frontier, kinds_by_cost, most_of
-from .trials import Stages, Trials
-from .watch import Watch
+from .job import Job, Kind, Panel
+from .packing import Filled, Packed, Packer, Rough
+from .polish import Polisher
+from .watch import Stop, Watch
 
-__all__ = ["search"]
+__all__ = ["Limits", "check_each_fits", "search_all"]
 
-# So many orders of the kinds are tried at first, and so many sets that failed are tried again.
-ORDERS, NEAREST = 6, 3
+# So many tries are made where nothing is said of them.
+TRIES = 20_000
 
-# Which share of all tries is used up at the end of the steps 2, 3 and 4.
-CHEAPER, NEAR, WITHOUT = Fraction(1, 2), Fraction(3, 4), Fraction(7, 8)
+# So many kinds are bought alone at most, and so many searches begin anew.
+ALONE, ANEW = 4, 3
+
+
+class Limits(NamedTuple):
+    """How long is searched, and whether panels may be left."""
+
+    tries: int | None
+    seconds: float | None
+    may_leave: bool
+
+
+class _Score(NamedTuple):
+    """What packings are compared by. Less is better, the first first."""
+
+    rough: Rough
+    waste: int
+    cuts: int
 
 
 class _Search:
-    def __init__(self, job: Job, trials: Trials) -> None:
-        self.job, self.trials = job, trials
-        # The offcuts that cost nothing, as single sheets, and the kinds that are bought.
-        given = [kind for kind in job.kinds if kind.is_given and any(holds(kind, panel) for panel in job.panels)]
-        self.given = [kind for kind in given for _ in range(most_of(kind, len(job.panels)))]
-        self.bought = kinds_by_cost(job.kinds, job.kerf)
-        self.failed: list[tuple[SheetSet, Answer]] = []
+    """The searches of a job. They keep the best packing."""
 
-    @property
-    def best(self) -> Answer:
-        """The best packing, once there is one."""
-        assert self.trials.best
-        return self.trials.best
+    def __init__(self, job: Job, watch: Watch) -> None:
+        self.watch, self.packer, self.polisher = watch, Packer(job), Polisher(job, watch)
+        self.best: tuple[_Score, Packed] | None = None
 
-    def bought_by(self, answer: Answer) -> list[Kind]:
-        return [sheet.kind for sheet in answer.packed.sheets if not sheet.kind.is_given]
+    def rounds(self, limits: Limits) -> Iterator[tuple[Sequence[Kind], int]]:
+        """From which sheets each search takes, and how many tries it has."""
+        every, tries = self.packer.kinds, limits.tries or TRIES
+        bought = [kind for kind in every if kind.cost]
+        alone = [[kind for kind in every if kind is only or not kind.cost] for only in bought] if len(bought) > 1 else []
+        others = [*alone[:ALONE], *([every] * ANEW)]
+        share = tries // 2 // len(others)
+        yield every, tries - share * len(others)
+        yield from ((kinds, share) for kinds in others if share)
+        while limits.tries is None and limits.seconds is not None:
+            yield every, tries
 
-    def paid(self) -> tuple[int, int]:
-        """What the sheets that are bought for the best packing cost, and how many they are."""
-        bought = self.bought_by(self.best)
-        return sum(kind.cost for kind in bought), len(bought)
+    def search(self, kinds: Sequence[Kind], tries: int, seed: int) -> None:
+        """One search."""
+        packer, watch = self.packer, self.watch
+        packed = packer.packed(kinds, tries, seed, lambda told: watch.tried(told.tries, packer.rough(told)))
+        watch.next()
+        if self.best is None or packed.rough <= self.best[0].rough:
+            polished = [self.polisher.polished(it) for it in packed.sheets]
+            score = _Score(packed.rough, sum(waste for (waste, _), _ in polished), sum(cuts for (_, cuts), _ in polished))
+            if self.best is None or score < self.best[0]:
+                self.best = score, packed._replace(sheets=[sheet for _, sheet in polished])
 
-    def begin(self) -> None:
-        """Finds a first packing."""
-        orders = [self.bought]
-        for kind in self.bought[1:ORDERS]:
-            orders.append([kind, *(other for other in self.bought if other is not kind)])
-        answers: list[Answer] = []
-        for order in orders:
-            answers += self.trials.firsts([self.given, *([kind] * most_of(kind, len(self.job.panels)) for kind in order)])
-        nearest = min(answers, key=lambda it: it.score)
-        if self.trials.best is None:
-            self.trials.climb(nearest)
-        if self.trials.best is None:
-            raise _used_up(self.job, nearest)
-
-    def takes_all(self, sheets: SheetSet) -> bool:
-        """Whether a set takes all panels in one of the first turnings."""
-        kinds = [kind for kind, count in zip(self.bought, sheets.counts) for _ in range(count)]
-        answers = self.trials.firsts([self.given, kinds])
-        if answers and answers[0].score.rough.left:
-            self.failed.append((sheets, answers[0]))
-        return bool(answers) and not answers[0].score.rough.left
-
-    def bisect(self, sets: Sequence[SheetSet]) -> None:
-        """Tries sets that are the dearer the roomier they are."""
-        low, high = 0, len(sets)
-        while low < high and self.trials.are_left(CHEAPER):
-            middle = (low + high) // 2
-            if self.takes_all(sets[middle]):
-                high = middle
+    def run(self, limits: Limits) -> Packed:
+        """All searches, one after the other."""
+        for seed, (kinds, tries) in enumerate(self.rounds(limits)):
+            if self.best is None or not self.watch.is_over:
+                self.search(kinds, tries, seed)
             else:
-                low = middle + 1
-
-    def cheaper(self) -> None:
-        """Tries sets that are cheaper than that of the best packing."""
-        need = area_needed(self.job) - sum(area_of(kind, self.job.kerf) for kind in self.given)
-        sets = cheaper_sets(self.bought, self.job, need, self.paid())
-        self.bisect(frontier(sets))
-        for it in sets:
-            if not self.trials.are_left(CHEAPER):
                 break
-            if it[:2] < self.paid() and not any(it.is_part_of(other) for other, _ in self.failed):
-                self.takes_all(it)
-        for it, answer in sorted(self.failed, key=lambda it: it[1].score)[:NEAREST]:
-            if it[:2] < self.paid():
-                self.trials.climb(answer, NEAR)
-
-    def without_offcuts(self) -> bool:
-        """Leaves out all offcuts that cost nothing, or one of them. Whether that is better."""
-        best = self.best
-        used = sorted((sheet for sheet in best.packed.sheets if sheet.kind.is_given), key=_panel_area)
-        given = [sheet.kind for sheet in used]
-        several: list[list[Kind]] = [[]] if given else []
-        several += [given[:index] + given[index + 1:] for index in range(len(given))]
-        for kept in several:
-            if not self.trials.are_left(WITHOUT):
-                return False
-            self.trials.firsts([kept, self.bought_by(best)])
-            if self.best is not best:
-                return True
-        return False
-
-    def improve(self) -> None:
-        """Turns panels in the best packing."""
-        best = self.best
-        self.trials.climb(best)
-        answers: list[Answer] = []
-        several = _ways([sheet.kind for sheet in best.packed.sheets if sheet.kind.is_given], self.bought_by(best))
-        for stages in several:
-            if self.trials.are_left():
-                answers += self.trials.firsts(stages)
-        for answer in sorted(answers, key=lambda it: it.score):
-            self.trials.climb(answer)
-        self.trials.shake(several)
-
-    def run(self) -> list[Filled]:
-        """All steps, one after the other."""
-        self.begin()
-        self.cheaper()
-        while self.without_offcuts():
-            pass
-        self.improve()
-        return [self.trials.polished(sheet) for sheet in self.best.packed.sheets]
+        assert self.best
+        return self.best[1]
 
 
-def _ways(given: Sequence[Kind], bought: Sequence[Kind]) -> list[Stages]:
-    """In which stages sheets can be filled: all that are bought in one, or those of a kind after those of another."""
-    by_kind: dict[int, list[Kind]] = {}
-    for kind in bought:
-        by_kind.setdefault(id(kind), []).append(kind)
-    apart = list(by_kind.values())
-    return [[given, bought], [given, *apart], [given, *reversed(apart)]] if len(apart) > 1 else [[given, bought]]
-
-
-def _panel_area(sheet: Filled) -> int:
-    return sum(it.panel.area for it in sheet.laid)
-
-
-def _used_up(job: Job, nearest: Answer) -> NoRoom:
-    """Why there is no packing, where each panel fits some sheet."""
-    left = nearest.packed.left
-    largest = max((it.panel for it in left), key=lambda panel: panel.area)
-    size = job.lengths.size(largest.width, largest.height)
-    count = f"{len(left)} of {len(job.panels)} panels"
+def check_each_fits(job: Job) -> None:
+    """Raises NoRoom where a panel is larger than each of the sheets, or there is none."""
+    kinds = [kind for kind in job.kinds if kind.count != 0]
     of = f"{job.of}: " if job.of else ""
+    if not job.kinds:
+        panel = job.panels[0]
+        raise NoRoom(f"the panel {panel.name!r} of line {panel.line} is of {job.of}, and no sheet is")
+    for panel in job.panels:
+        if not any(kind.holds(panel) for kind in kinds):
+            size = job.lengths.size(panel.width, panel.height)
+            turned = any(kind.takes(panel.height, panel.width) for kind in kinds)
+            why = "fits a sheet only when it is turned, and it keeps its direction" if turned else "fits no sheet"
+            if any(replace(kind, trim=0).holds(panel) for kind in kinds):
+                why = "fits no sheet once --trim is off its edges"
+            raise NoRoom(f"{of}the panel {panel.name!r} of line {panel.line}, {size}, {why}")
+
+
+def _used_up(job: Job, left: Sequence[Panel]) -> NoRoom:
+    """Why there is no packing, where each panel fits some sheet."""
+    largest = max(left, key=lambda panel: panel.area)
+    size = job.lengths.size(largest.width, largest.height)
+    of = f"{job.of}: " if job.of else ""
+    count = f"{len(left)} of {len(job.panels)} panels"
     return NoRoom(f"{of}the stock is used up: there is no room for {count}, as {largest.name!r}, {size}")
 
 
-def search(job: Job, heuristics: Sequence[Heuristic], tries: int, watch: Watch) -> list[Filled]:
-    """The sheets with their panels. The watch is told of each try. Raises NoRoom."""
-    check_each_fits(job)
-    return _Search(job, Trials(job, heuristics, tries, watch)).run()
+def _found(job: Job, limits: Limits, watch: Watch) -> Packed:
+    """The sheets of a job. Raises NoRoom where panels are left that may not be; but where the user ended the search there are
+    no sheets then."""
+    search = _Search(job, watch)
+    try:
+        packed = search.run(limits)
+    finally:
+        watch.end()
+    if not packed.left:
+        return packed._replace(least=search.packer.least())
+    if limits.may_leave:
+        return packed
+    if watch.stop.is_pressed:
+        return Packed()
+    raise _used_up(job, packed.left)
+
+
+def search_all(jobs: Sequence[Job], limits: Limits, stop: Stop) -> tuple[list[Packed], str]:
+    """The sheets of one job after the other, until the user ends that; and a line that says so. Those that are not begun then
+    have no sheets. Each job has a share of the time."""
+    found, stopped = list[Packed](), ""
+    begun = time.monotonic()
+    for index, job in enumerate(jobs):
+        if stop.is_pressed:
+            found.append(Packed((), job.panels if limits.may_leave else ()))
+            continue
+        seconds = None
+        if limits.seconds is not None:
+            seconds = (begun + limits.seconds - time.monotonic()) / (len(jobs) - index)
+        watch = Watch(job, limits.tries or (TRIES if limits.seconds is None else None), seconds, stop)
+        found.append(_found(job, limits, watch))
+        if stop.is_pressed:
+            stopped = f"stopped after {watch.count}: the plan is the best so far"
+    without = ", ".join(job.of for job, it in zip(jobs, found) if not it.sheets)
+    return found, stopped + (f"; no plan of {without}" if stopped and without else "")

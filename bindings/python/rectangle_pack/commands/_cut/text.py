@@ -84,6 +84,9 @@ def _result_lines(result: Result) -> Iterator[str]:
     for plan in result.plans:
         if plan.times:
             yield f"  sheets {plan.numbers}: {plan.times}"
+    if result.least is not None:
+        yield "no plan needs fewer sheets: proved" if result.is_optimal else (
+            f"at least {counted(result.least, 'sheet')} {'is' if result.least == 1 else 'are'} needed")
     yield from last
 
 
@@ -93,4 +96,8 @@ def sums_text(results: Results) -> str:
     if len(results.planned) > 1:
         first, last = _sums(results.job, results.sums)
         lines += [f"together: {first}", *last]
+    if results.left:
+        is_one = len(results.left) == 1
+        are, them = ("is", "it") if is_one else ("are", "them")
+        lines.append(f"{counted(len(results.left), 'panel')} {are} left, in left.csv: no sheet has room for {them}")
     return "\n".join(lines)

@@ -4,7 +4,7 @@ from __future__ import annotations
 from dataclasses import asdict
 from typing import Any
 
-from .job import Job, Kind
+from .job import Job, Kind, Panel
 from .plan import Cut, Part, Rect, SheetPlan
 from .result import Result, Results, Sums, percent
 
@@ -55,7 +55,7 @@ class _Json:
         return {
             "number": plan.number, "plan": printed.number, **self.material, "name": kind.name, "is_offcut": kind.is_offcut,
             "cost": self.cost(kind.cost), "width": self.length(kind.width), "height": self.length(kind.height),
-            "trim": self.length(kind.trim), "heuristic": plan.filled.heuristic, "panels": [self.part(it) for it in plan.panels],
+            "trim": self.length(kind.trim), "panels": [self.part(it) for it in plan.panels],
             "offcuts": [self.part(it) for it in plan.offcuts],
             "cuts": [self.cut(number, it) for number, it in enumerate(plan.cuts, 1)],
             "waste": self.area(plan.waste), "cut_length": self.length(plan.cut_length),
@@ -76,7 +76,16 @@ class _Json:
         return {**values, "cost": self.cost(sums.cost), "waste_percent": float(percent(sums.waste, sums.area))}
 
     def result(self, result: Result) -> dict[str, Any]:
-        return {**self.material, "sums": self.sums(result.sums)}
+        """The sums of a material; how many sheets are needed, whatever plan is made, where that is known; and whether that is
+        how many there are."""
+        return {
+            **self.material, "sums": self.sums(result.sums), "least_sheets": result.least, "is_optimal": result.is_optimal}
+
+    def left(self, panel: Panel) -> dict[str, Any]:
+        """A panel that is left."""
+        return {
+            "name": panel.name, **self.material, "line": panel.line, "width": self.length(panel.width),
+            "height": self.length(panel.height)}
 
     def sheets(self, result: Result) -> list[dict[str, Any]]:
         return [self.sheet(sheet, it.plan) for it in result.alike for sheet in it.sheets]
@@ -92,4 +101,5 @@ def as_json(results: Results) -> dict[str, Any]:
         "used": [json.kind(*used) for json, it in several for used in it.used],
         "offcuts_left": [json.kind(*left) for json, it in several for left in it.offcuts_left],
         "sheets": [sheet for json, it in several for sheet in json.sheets(it)],
+        "left": [json.left(panel) for json, it in several for panel in it.left],
     }

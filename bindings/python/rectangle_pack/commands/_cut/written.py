@@ -1,14 +1,15 @@
-"""The tables that are written: the offcuts that there are then, and what is to be bought."""
+"""The tables that are written: the offcuts that there are then, what is to be bought, and which panels are left."""
 from __future__ import annotations
 
 import csv
 import io
+from collections import Counter
 from collections.abc import Iterable, Sequence
 
 from .job import Job, Work
 from .result import Result, Results
 
-__all__ = ["buy_table", "offcuts_table"]
+__all__ = ["buy_table", "left_table", "offcuts_table"]
 
 BUY = ("sheet", "size", "material", "thickness", "count", "cost each", "cost")
 
@@ -57,4 +58,15 @@ def buy_table(results: Results) -> str:
                 size = job.lengths.size(kind.width, kind.height)
                 costs = job.costs.text(kind.cost), job.costs.text(count * kind.cost)
                 rows.append((kind.name, size, job.material.name, job.material.thickness, count, *costs))
+    return _table(rows)
+
+
+def left_table(results: Results) -> str:
+    """left.csv: the panels that are left, in the columns of the cutting list, so that it may be one."""
+    counts = Counter(panel.key for panel in results.left)
+    lines = results.work.lines
+    rows: list[Sequence[object]] = [[*lines[0].row.heads.values()]]
+    for key in sorted(counts):
+        values = lines[key - 1].row.values
+        rows.append([counts[key] if column == "count" else values[column] for column in lines[0].row.heads])
     return _table(rows)
