@@ -10,9 +10,8 @@ from .layout import (
     entries_of, offcut_key, scale_text,
 )
 from .page import Area, Disc, Lines, Oblong, Page, Shape, Stroke, Text, shortened, text_width
-from .plan import Cut, Part, Rect, SheetPlan
+from .plan import Cut, Part, Rect, SheetPlan, piece_of, steps_of
 from .result import Result, percent
-from .steps import piece_of, steps_of
 from .text import counted, heading, stem_of
 
 __all__ = ["page_of"]

@@ -7,9 +7,8 @@ from dataclasses import dataclass
 from decimal import Decimal
 
 from .page import Area, text_width
-from .plan import Part, SheetPlan
+from .plan import Part, SheetPlan, piece_of
 from .result import Result
-from .steps import piece_of
 
 __all__ = [
     "FACTS_AT", "JOB_AT", "LEGEND_LINE", "LEGEND_SIZE", "LONG", "MARGIN", "MEASURES", "SHORT", "SWATCH", "TITLE_AT", "Layout",

@@ -1,16 +1,17 @@
 """Panels and sheets as the library is told them. Each panel is a box that is larger by the kerf."""
 from __future__ import annotations
 
-from collections.abc import Iterable, Sequence
+from collections import deque
+from collections.abc import Callable, Iterable, Sequence
 from math import gcd
 from typing import Any, NamedTuple
 
-from ... import Bin, Box, Packing, Placement, Progress, Section, Turn, least_bins, pack
+from ... import Bin, Box, Placement, Progress, Section, Turn, least_bins, pack
 from ..._numbers import MOST_OF_64
 from ..._types import Asked
 from .job import Job, Kind, Laid, Panel
 
-__all__ = ["Filled", "Packed", "Packer", "Rough", "box_of", "room", "turn_of"]
+__all__ = ["Filled", "Packed", "Packer", "Rough", "box_of", "dealer", "filled", "room", "turn_of"]
 
 
 class Filled(NamedTuple):
@@ -27,10 +28,8 @@ class Filled(NamedTuple):
 
     def with_panels_of(self, other: Filled) -> Filled:
         """This sheet with the panels of one that has an equal content."""
-        waiting: dict[int, list[Panel]] = {}
-        for it in reversed(other.laid):
-            waiting.setdefault(it.panel.key, []).append(it.panel)
-        return self._replace(laid=tuple(Laid(waiting[it.panel.key].pop(), it.is_turned) for it in self.laid))
+        deal = dealer(it.panel for it in other.laid)
+        return self._replace(laid=tuple(Laid(deal(it.panel), it.is_turned) for it in self.laid))
 
 
 class Rough(NamedTuple):
@@ -79,39 +78,52 @@ class Packer:
         # Of packings that cost as much the one with fewer sheets is better. So each sheet costs a little more than it does: 2,
         # as a search for bins that cost 1 ends where there are few enough, however they are filled.
         self.unit = gcd(*(kind.cost for kind in self.kinds)) or 1
-        most = max((kind.cost for kind in self.kinds), default=0) // self.unit
-        self.factor = min(2 * len(self.boxes) + 1, (MOST_OF_64 - 2) // max(most, 1))
+        dearest = max((kind.cost for kind in self.kinds), default=0) // self.unit
+        self.factor = min(2 * len(self.boxes) + 1, (MOST_OF_64 - 2) // max(dearest, 1))
 
-    def bins(self, kinds: Iterable[Kind]) -> list[Bin]:
-        """Sheets as bins, with what they cost. No more are used than there are panels."""
+        # No more sheets of a kind are used than there are panels.
+        most = len(self.boxes)
+        self.counts = [None if kind.count is None or kind.count >= most else kind.count for kind in self.kinds]
+
+    def bins(self, counts: Sequence[int | None]) -> list[Bin]:
+        """So many sheets of each kind as bins, with what they cost."""
         return [
-            room(kind, self.job.kerf)._replace(
-                count=None if kind.count is None or kind.count >= len(self.boxes) else kind.count,
-                cost=kind.cost // self.unit * self.factor + 2)
-            for kind in kinds]
+            room(kind, self.job.kerf)._replace(count=count, cost=kind.cost // self.unit * self.factor + 2)
+            for kind, count in zip(self.kinds, counts)]
 
     def rough(self, told: Progress) -> Rough:
         """How good the best packing is of which a search tells."""
         return Rough(told.left_cells, (told.cost - 2 * told.bins) // self.factor * self.unit, told.bins)
 
-    def packed(self, kinds: Sequence[Kind], tries: int, seed: int, asked: Asked) -> Packed:
-        """The best packing of a search."""
-        packing = pack(self.bins(kinds), self.boxes, partial=True, tries=tries, seed=seed, turn=self.turns, progress=asked)
+    def packed(self, counts: Sequence[int | None], tries: int, seed: int, asked: Asked) -> Packed:
+        """The best packing of a search, of so many sheets of each kind."""
+        packing = pack(self.bins(counts), self.boxes, partial=True, tries=tries, seed=seed, turn=self.turns, progress=asked)
         by_sheet: dict[tuple[int, int], list[Placement[int, int]]] = {}
         for it in packing:
             by_sheet.setdefault((it.bin, it.copy), []).append(it)
-        sheets = [filled(kinds[bin], self.job.panels, places) for (bin, _), places in sorted(by_sheet.items())]
-        left = [self.boxes[it.name] for it in packing.left]
-        rough = Rough(sum(it.width * it.height for it in left), sum(it.kind.cost for it in sheets), len(sheets))
-        return Packed(sheets, [self.job.panels[it.name] for it in packing.left], rough)
+        # Of equal panels those with the first names are on the first sheets.
+        panels, deal = self.job.panels, dealer(self.job.panels)
+        sheets = [filled(self.kinds[bin], panels, places, deal) for (bin, _), places in sorted(by_sheet.items())]
+        cells = sum(self.boxes[it.name].width * self.boxes[it.name].height for it in packing.left)
+        rough = Rough(cells, sum(it.kind.cost for it in sheets), len(sheets))
+        return Packed(sheets, [deal(panels[it.name]) for it in packing.left], rough)
 
     def least(self) -> int | None:
         """How many sheets are needed, whatever plan is made. None where no plan has all panels."""
-        return least_bins(self.bins(self.kinds), self.boxes, turn=self.turns)
+        return least_bins(self.bins(self.counts), self.boxes, turn=self.turns)
 
 
-def filled(kind: Kind, panels: Sequence[Panel], places: Iterable[Placement[int, Any]]) -> Filled:
-    """A sheet in which these of the panels stand."""
-    placed = list(places)
-    return Filled(
-        kind, tuple(Laid(panels[it.name], it.turned) for it in placed), tuple(it.section for it in placed))
+def dealer(panels: Iterable[Panel]) -> Callable[[Panel], Panel]:
+    """Deals panels out: in place of a panel the next one that comes from the same line."""
+    waiting: dict[int, deque[Panel]] = {}
+    for it in panels:
+        waiting.setdefault(it.key, deque()).append(it)
+    return lambda panel: waiting[panel.key].popleft()
+
+
+def filled(
+    kind: Kind, panels: Sequence[Panel], places: Sequence[Placement[int, Any]], deal: Callable[[Panel], Panel],
+) -> Filled:
+    """A sheet in which these of the panels stand. Equal ones are dealt out from its left lower corner on."""
+    placed = sorted(places, key=lambda it: it.section)
+    return Filled(kind, tuple(Laid(deal(panels[it.name]), it.turned) for it in placed), tuple(it.section for it in placed))

@@ -1,14 +1,15 @@
-"""How a sheet is cut: its parts, and the cuts in their order. All is in cells of the sheet, trim included."""
+"""How a sheet is cut: its parts, and the cuts in their order. All is in cells of the sheet, trim included. At the end these are
+written: each number is written once, there."""
 from __future__ import annotations
 
 from collections.abc import Sequence
 from dataclasses import dataclass
 
-from .._sawing import Edge, FlatAxis, Role
-from .job import Kind, Laid
+from .._sawing import Edge, FlatAxis, Piece, Role, SawStep
+from .job import Job, Kind, Laid
 from .packing import Filled
 
-__all__ = ["Cut", "Part", "Rect", "SheetPlan"]
+__all__ = ["Cut", "Part", "Rect", "SheetPlan", "piece_of", "steps_of"]
 
 
 @dataclass(frozen=True)
@@ -121,3 +122,23 @@ class SheetPlan:
     @property
     def cut_length(self) -> int:
         return sum(cut.length for cut in self.cuts)
+
+
+def piece_of(job: Job, part: Part) -> Piece:
+    """A part as it is written."""
+    lengths, rect = job.lengths, part.rect
+    is_turned = part.laid is not None and part.laid.is_turned
+    return Piece(part.role, part.name, lengths.text(rect.width), lengths.text(rect.height), is_turned)
+
+
+def _step(job: Job, number: int, cut: Cut) -> SawStep:
+    """A cut as it is written."""
+    leaves, kerf = [piece_of(job, it) for it in cut.parts], job.lengths.text(job.kerf)
+    if cut.trims:
+        return SawStep(number, piece_of(job, cut.part), cut.axis, "", kerf, leaves, cut.trims, job.lengths.text(cut.off))
+    return SawStep(number, piece_of(job, cut.part), cut.axis, job.lengths.text(cut.at), kerf, leaves)
+
+
+def steps_of(job: Job, plan: SheetPlan) -> list[SawStep]:
+    """The cuts of a sheet in their order."""
+    return [_step(job, number, cut) for number, cut in enumerate(plan.cuts, 1)]

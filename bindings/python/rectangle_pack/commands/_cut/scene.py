@@ -4,9 +4,8 @@ from __future__ import annotations
 from .._scale import Scale
 from .._scene import Item, PartCut, Room, Scene, Step, Triple
 from .job import Job
-from .plan import Rect, SheetPlan
+from .plan import Rect, SheetPlan, steps_of
 from .result import Results, percent
-from .steps import steps_of
 
 __all__ = ["scene_of"]
 

@@ -1,8 +1,8 @@
 """Looks for the cheapest sheets that take all panels, by searches of the library, one after the other.
 
-The first has half of the tries, and all kinds of sheets. Where there are several kinds, others follow in which each of them is
-the only one that is bought. Those that remain begin anew, for less waste and fewer cuts. After each the sheets are packed
-closer."""
+The first has half of the tries. What is cheaper than its packing has fewer sheets of some kind: so where there are several
+kinds, searches follow that may use one sheet fewer of a kind. Those that remain begin anew, for less waste and fewer cuts.
+After each the sheets are packed closer."""
 from __future__ import annotations
 
 import time
@@ -19,10 +19,10 @@ from .watch import Stop, Watch
 __all__ = ["Limits", "check_each_fits", "search_all"]
 
 # So many tries are made where nothing is said of them.
-TRIES = 20_000
+TRIES = 60_000
 
-# So many kinds are bought alone at most, and so many searches begin anew.
-ALONE, ANEW = 4, 3
+# Of so many kinds at most one sheet fewer is used, and so many searches begin anew.
+FEWER, ANEW = 6, 5
 
 
 class Limits(NamedTuple):
@@ -48,22 +48,32 @@ class _Search:
         self.watch, self.packer, self.polisher = watch, Packer(job), Polisher(job, watch)
         self.best: tuple[_Score, Packed] | None = None
 
-    def rounds(self, limits: Limits) -> Iterator[tuple[Sequence[Kind], int]]:
-        """From which sheets each search takes, and how many tries it has."""
-        every, tries = self.packer.kinds, limits.tries or TRIES
-        bought = [kind for kind in every if kind.cost]
-        alone = [[kind for kind in every if kind is only or not kind.cost] for only in bought] if len(bought) > 1 else []
-        others = [*alone[:ALONE], *([every] * ANEW)]
-        share = tries // 2 // len(others)
-        yield every, tries - share * len(others)
-        yield from ((kinds, share) for kinds in others if share)
+    def fewer(self, kind: Kind) -> list[int | None]:
+        """How many sheets of each kind there are, but of one kind one fewer than the best packing uses; if it uses some."""
+        assert self.best
+        used = sum(it.kind is kind for it in self.best[1].sheets)
+        return [
+            used - 1 if it is kind and used else count for it, count in zip(self.packer.kinds, self.packer.counts)]
+
+    def rounds(self, limits: Limits) -> Iterator[tuple[Sequence[int | None], int]]:
+        """How many sheets of each kind each search may use, and how many tries it has."""
+        every, tries = self.packer.counts, limits.tries or TRIES
+        dearest = sorted(self.packer.kinds, key=lambda kind: -kind.cost)[:FEWER] if len(every) > 1 else []
+        share = tries // 2 // (len(dearest) + ANEW)
+        yield every, tries - share * (len(dearest) + ANEW)
+        for kind in dearest if share else ():
+            yield self.fewer(kind), share
+        for _ in range(ANEW if share else 0):
+            yield every, share
+        # As long as there is time.
         while limits.tries is None and limits.seconds is not None:
             yield every, tries
+            tries *= 2
 
-    def search(self, kinds: Sequence[Kind], tries: int, seed: int) -> None:
+    def search(self, counts: Sequence[int | None], tries: int, seed: int) -> None:
         """One search."""
         packer, watch = self.packer, self.watch
-        packed = packer.packed(kinds, tries, seed, lambda told: watch.tried(told.tries, packer.rough(told)))
+        packed = packer.packed(counts, tries, seed, lambda told: watch.tried(told.tries, packer.rough(told)))
         watch.next()
         if self.best is None or packed.rough <= self.best[0].rough:
             polished = [self.polisher.polished(it) for it in packed.sheets]
@@ -73,9 +83,9 @@ class _Search:
 
     def run(self, limits: Limits) -> Packed:
         """All searches, one after the other."""
-        for seed, (kinds, tries) in enumerate(self.rounds(limits)):
+        for seed, (counts, tries) in enumerate(self.rounds(limits)):
             if self.best is None or not self.watch.is_over:
-                self.search(kinds, tries, seed)
+                self.search(counts, tries, seed)
             else:
                 break
         assert self.best

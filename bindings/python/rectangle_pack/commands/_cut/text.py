@@ -4,9 +4,8 @@ from __future__ import annotations
 from collections.abc import Iterator
 
 from .job import Job
-from .plan import SheetPlan
+from .plan import SheetPlan, piece_of, steps_of
 from .result import Result, Results, Sums, percent
-from .steps import piece_of, steps_of
 from .unit import Unit
 
 __all__ = ["counted", "heading", "plan_text", "stem_of", "sums_text"]
