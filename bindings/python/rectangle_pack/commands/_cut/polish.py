@@ -13,7 +13,7 @@ from .watch import Watch
 __all__ = ["Polisher"]
 
 # A search of one sheet has so many tries at most, and fewer where it has many panels; a size is halved so often.
-TRIES, TRIED_PANELS, HALVINGS = 400, 20_000, 7
+TRIES, TRIED_PANELS, HALVINGS = 400, 20_000, 6
 
 
 class _Corner:
@@ -72,12 +72,15 @@ class _Corner:
 def _layouts(job: Job, sheet: Filled) -> Iterator[Filled]:
     """The sheet as it is, and with its panels nearer to a corner, or round a rest."""
     yield sheet
+    whole = _Corner(job, sheet)
+    whole.make_room()
+    yield whole.found
     for axes in ((0, 1), (1, 0)):
         corner = _Corner(job, sheet)
         for axis in axes:
-            corner.make_room()
-            yield corner.found
             corner.shrink(axis)
+            yield corner.found
+            corner.make_room()
             yield corner.found
 
 
