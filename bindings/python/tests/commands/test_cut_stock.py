@@ -145,6 +145,25 @@ class Offcuts(Case):
             self.assertEqual(len(run.json["sheets"][0]["offcuts"]), count, keep)
 
 
+class Waste(Case):
+    """What is left of a sheet is left in pieces that are worth keeping, as far as that can be."""
+
+    def offcuts(self, panels: str, stock: str, keep: str) -> list[list[Fraction]]:
+        run = self.cut_tables(HEAD + panels, SHEETS + stock, "--kerf", 0, "--json", "--keep", keep)
+        [sheet] = run.json["sheets"]
+        return [sorted((it["width"], it["height"])) for it in sheet["offcuts"]]
+
+    def test_in_a_corner(self) -> None:
+        # In a row they would leave 200 x 50, which is too small.
+        self.assertEqual(self.offcuts("a,4,50,50,keep\n", "s,,200,100,1\n", "100x100"), [[100, 100]])
+
+    def test_round_a_rest(self) -> None:
+        # No strip across the sheet can be left. Beside the two long panels there are 80 x 80, and the small ones stand in a
+        # strip of 10.
+        panels = "a,1,100,20,keep\nb,1,20,80,keep\nc,2,10,10,keep\n"
+        self.assertEqual(self.offcuts(panels, "s,,100,100,1\n", "80x70"), [[70, 80]])
+
+
 class NoRoom(Case):
     def refused(self, panels: str, stock: str, *words: object) -> str:
         run = self.cut(self.write("p.csv", HEAD + panels), "--stock", self.write("s.csv", SHEETS + stock), "--kerf", 3, *words)
