@@ -15,11 +15,13 @@ __all__ = ["Filled", "Packed", "Packer", "Rough", "box_of", "dealer", "filled", 
 
 
 class Filled(NamedTuple):
-    """A sheet with the panels that are packed into it, and where these stand in its bin."""
+    """A sheet with the panels that are packed into it, and where these stand in its bin. A rest that is to stay whole has a
+    place too."""
 
     kind: Kind
     laid: tuple[Laid, ...]
     places: tuple[Section, ...]
+    rests: tuple[Section, ...] = ()
 
     @property
     def content(self) -> object:

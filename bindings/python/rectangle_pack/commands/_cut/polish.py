@@ -34,8 +34,9 @@ class _Corner:
         packing = pack([Bin(*sides)], boxes, partial=True, tries=tries, turn=[*self.turns, *of_rest])
         if packing.left:
             return False
-        placed = packing.placements[:len(self.boxes)]
-        self.found = filled(self.found.kind, self.panels, placed, dealer(self.panels))
+        placed, rests = packing.placements[:len(self.boxes)], packing.placements[len(self.boxes):]
+        found = filled(self.found.kind, self.panels, placed, dealer(self.panels))
+        self.found = found._replace(rests=tuple(it.section for it in rests))
         self.sides = [max(it.section[axis] + it.section[3 + axis] for it in packing) for axis in (0, 1)]
         return True
 
@@ -99,7 +100,7 @@ class Polisher:
     def polished(self, sheet: Filled) -> tuple[tuple[int, int], Filled]:
         """The best layout that is known of the sheet, with its waste and its cuts."""
         if sheet.content not in self.best:
-            layouts = [sheet] if self.watch.is_over else {it.places: it for it in _layouts(self.job, sheet)}.values()
+            layouts = [sheet] if self.watch.is_over else {it[2:]: it for it in _layouts(self.job, sheet)}.values()
             self.best[sheet.content] = min(((self.sawn(it), it) for it in layouts), key=lambda it: it[0])
         score, best = self.best[sheet.content]
         return score, best.with_panels_of(sheet)

@@ -10,7 +10,7 @@ Where a - p is k or less there is no material behind the blade, which takes all 
 It does not count where the part begins. So strips that lie side by side may change places, each with all that is in it."""
 from __future__ import annotations
 
-from collections.abc import Iterator, Sequence
+from collections.abc import Iterator
 from itertools import count, product
 from string import ascii_uppercase
 from typing import NamedTuple
@@ -71,9 +71,9 @@ def _joined(axis: Axis, lower: _Node, upper: _Node) -> _Node:
     return _Node(whole, slack, axis, (lower, upper))
 
 
-def _plan_of(bin: Bin, places: Sequence[Section]) -> _Node:
+def _plan_of(bin: Bin, filled: Filled) -> _Node:
     """The library's cutting plan of a bin in which panels stand. It may be deep: so there is no recursion."""
-    steps, panels = straight_cuts(bin, places), {*places}
+    steps, panels = straight_cuts(bin, [*filled.places, *filled.rests]), {*filled.places}
     assert steps is not None, "a packing of the library has a plan"
     waiting, order = [tree_of(steps, Section(0, 0, 0, bin.width, bin.height, 1))], list[CutTree]()
     while waiting:
@@ -111,7 +111,7 @@ class _Saw:
         self.cuts: list[Cut] = []
         self.panels: list[Part] = []
         self.offcuts: list[Part] = []
-        self.tree = _plan_of(room(self.kind, job.kerf), filled.places)
+        self.tree = _plan_of(room(self.kind, job.kerf), filled)
         self.laid = dict(zip(filled.places, filled.laid))
 
     def part(self, node: _Node, rect: Rect) -> Part:
