@@ -127,7 +127,8 @@ class Sums(Case):
         run = self.cut_tables(f"{HEAD}a,2,100,50,keep\n", f"{SHEETS}s,,100,60,1.25\n", "--kerf", 0)
         self.assertEqual(run.out.splitlines(), [
             "2 panels from 2 sheets, cost 2.5", "  2 x s, 100 x 60, cost 2.5", "  sheets 1 to 2: 2 times this sheet",
-            "no plan needs fewer sheets: proved", "waste 16.7 %; 0 offcuts kept, 0.0 %", "2 cuts of 0.2 m together", f"4 files written to {run.folder}"])
+            "no plan needs fewer sheets: proved", "waste 16.7 %; 0 offcuts kept, 0.0 %", "2 cuts of 0.2 m together",
+            f"4 files written to {run.folder}"])
         self.assertEqual(rows_of((run.folder / "offcuts.csv").read_text(encoding="utf-8")), [])
 
 
