@@ -185,11 +185,6 @@ class ByHand(Case):
         self.assertIn("1. A 203.2 x 60: cut across y at 50 -> B 203.2 x 50, offcut \"panels s 1-1\" 203.2 x 6.8\n"
                       "2. B 203.2 x 50: cut across x at 100 -> panel \"a #1\" 100 x 50, panel \"a #2\" 100 x 50\n", text)
 
-    def test_what_is_measured_is_what_counts(self) -> None:
-        # Beside the first panel 120 is left, of which 115 and 110 are used: so the 100 are measured, and not the 120.
-        [text] = self.sheets("a,1,100,100,keep\nb,1,115,40,keep\nc,1,110,50,keep\n", "s,,223.2,100,1\n", "--kerf", "3.2")
-        self.assertIn('1. A 223.2 x 100: cut across x at 100 -> panel "a" 100 x 100, B 120 x 100\n', text)
-
     def test_a_blade_that_takes_the_end_of_a_part(self) -> None:
         # 1 and 2 are less than the kerf: nothing is left behind the blade, so these are trims.
         [text] = self.sheets("a,1,100,50,keep\n", "s,,101,52,1\n", "--kerf", "3")
