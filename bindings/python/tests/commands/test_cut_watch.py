@@ -103,7 +103,7 @@ class Stopped(Case):
         with stopping(4):  # type: ignore[attr-defined]
             run = run_cut(self.folder / "plan", *paths, "--page", self.folder / "page.html")
         self.assertEqual(run.status, 130)
-        self.assertRegex(run.err, r"^stopped after \d+ of 60000 tries: the plan is the best so far\n$")
+        self.assertRegex(run.err, r"^stopped after \d+ of 100000 tries: the plan is the best so far\n$")
         self.assertTrue(run.out.startswith("50 panels from "), run.out)
         self.assertTrue((self.folder / "page.html").exists() and (run.folder / "offcuts.csv").exists())
         check_panels(self, rows_of(PANELS), saw_all(run, 3))
@@ -147,7 +147,7 @@ class Stopped(Case):
             with mock.patch.object(Watch, "tried", stop):
                 run = run_cut(self.folder / "plan", panels, "--stock", stock, "--offcuts", rack, "--kerf", 0, "--no-pdf", *words)
             self.assertEqual(run.status, 130)
-            self.assertRegex(run.err, r"^stopped after \d+ of 60000 tries: the plan is the best so far; no plan of elm\n$")
+            self.assertRegex(run.err, r"^stopped after \d+ of 100000 tries: the plan is the best so far; no plan of elm\n$")
             folders = sorted(path.name for path in run.folder.iterdir() if path.is_dir())
             self.assertEqual(folders, ["material-ash", "material-oak"])
             # The offcut of elm is there as before.

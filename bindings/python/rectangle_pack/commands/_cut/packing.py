@@ -85,13 +85,20 @@ class Packer:
 
         # No more sheets of a kind are used than there are panels.
         most = len(self.boxes)
-        self.counts = [None if kind.count is None or kind.count >= most else kind.count for kind in self.kinds]
+        self.most = [most if kind.count is None else min(kind.count, most) for kind in self.kinds]
+        self.counts = [None if count == most else count for count in self.most]
+        self.cells = sum(box.width * box.height for box in self.boxes)
+        self.rooms = [bin.width * bin.height for bin in (room(kind, job.kerf) for kind in self.kinds)]
 
     def bins(self, counts: Sequence[int | None]) -> list[Bin]:
         """So many sheets of each kind as bins, with what they cost."""
         return [
             room(kind, self.job.kerf)._replace(count=count, cost=kind.cost // self.unit * self.factor + 2)
             for kind, count in zip(self.kinds, counts)]
+
+    def room_in(self, counts: Sequence[int]) -> int:
+        """The area of so many sheets of each kind, with the kerf as the panels have it."""
+        return sum(count * cells for count, cells in zip(counts, self.rooms))
 
     def rough(self, told: Progress) -> Rough:
         """How good the best packing is of which a search tells."""

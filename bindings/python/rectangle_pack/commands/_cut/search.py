@@ -1,17 +1,19 @@
 """Looks for the cheapest sheets that take all panels, by searches of the library, one after the other.
 
-The first has half of the tries. What is cheaper than its packing has fewer sheets of some kind: so where there are several
-kinds, searches follow that may use one sheet fewer of a kind. Those that remain begin anew, for less waste and fewer cuts.
-After each the sheets are packed closer."""
+The first may use all sheets. Then some sheets of its packing are exchanged for others that cost less, or go, as long as a search
+finds room for all panels. The last begin anew, for less waste and fewer cuts. After each the sheets are packed closer."""
 from __future__ import annotations
 
 import time
+from collections import Counter
 from collections.abc import Iterator, Sequence
 from dataclasses import replace
+from itertools import chain, product
+from operator import le
 from typing import NamedTuple
 
 from .._common import NoRoom
-from .job import Job, Kind, Panel
+from .job import Job, Panel
 from .packing import Filled, Packed, Packer, Rough
 from .polish import Polisher
 from .watch import Stop, Watch
@@ -19,10 +21,10 @@ from .watch import Stop, Watch
 __all__ = ["Limits", "check_each_fits", "search_all"]
 
 # So many tries are made where nothing is said of them.
-TRIES = 60_000
+TRIES = 100_000
 
-# Of so many kinds at most one sheet fewer is used, and so many searches begin anew.
-FEWER, ANEW = 6, 5
+# Up to so many sheets of a kind are exchanged at once, of so many kinds, in so many searches; and so many begin anew.
+GONE, DEAREST, CHEAPER, ANEW = 3, 6, 20, 5
 
 
 class Limits(NamedTuple):
@@ -47,28 +49,75 @@ class _Search:
     def __init__(self, job: Job, watch: Watch) -> None:
         self.watch, self.packer, self.polisher = watch, Packer(job), Polisher(job, watch)
         self.best: tuple[_Score, Packed] | None = None
+        kinds = self.packer.kinds
+        self.dearest = sorted(range(len(kinds)), key=lambda it: -kinds[it].cost)[:DEAREST]
 
-    def fewer(self, kind: Kind) -> list[int | None]:
-        """How many sheets of each kind there are, but of one kind one fewer than the best packing uses; if it uses some."""
+    def used(self) -> Sequence[int]:
+        """How many sheets of each kind the best packing takes."""
         assert self.best
-        used = sum(it.kind is kind for it in self.best[1].sheets)
-        return [
-            used - 1 if it is kind and used else count for it, count in zip(self.packer.kinds, self.packer.counts)]
+        used = Counter(id(it.kind) for it in self.best[1].sheets)
+        return [used[id(kind)] for kind in self.packer.kinds]
+
+    def taken(self) -> Sequence[int]:
+        """So many; and all that cost nothing."""
+        packer = self.packer
+        return [used if kind.cost else most for used, kind, most in zip(self.used(), packer.kinds, packer.most)]
+
+    def fewer(self) -> Iterator[Sequence[int | None]]:
+        """All sheets, but of one kind one fewer than the best packing takes."""
+        for index in self.dearest:
+            if used := self.used()[index]:
+                yield [used - 1 if it == index else count for it, count in enumerate(self.packer.counts)]
+
+    def cheaper(self) -> Iterator[tuple[int, ...]]:
+        """How many sheets of each kind there are, where some of a kind go and others come, so that all cost less than those of
+        the best packing."""
+        packer, counts = self.packer, self.taken()
+        dearest = [index for index in self.dearest if packer.kinds[index].cost]
+        for gone, come, number in product(dearest, dearest, range(1, GONE + 1)):
+            if number <= counts[gone]:
+                costs, after = number * packer.kinds[gone].cost, [*counts]
+                after[gone] -= number
+                if come != gone:
+                    after[come] = min(after[come] + (costs - 1) // packer.kinds[come].cost, packer.most[come])
+                yield tuple(after)
+
+    def promising(self) -> Iterator[Sequence[int]]:
+        """Such sheets, those with the largest area first, until the searches find nothing in them."""
+        failed: list[tuple[int, ...]] = []
+        for _ in range(CHEAPER):
+            least = self.packer.cells
+            found = [
+                it for it in {*self.cheaper()} if self.packer.room_in(it) >= least
+                and not any(all(map(le, it, other)) for other in failed)]
+            if not found:
+                return
+            counts, before = max(found, key=lambda it: (self.packer.room_in(it), it)), self.best
+            yield counts
+            if before and self.best and self.best[0].rough >= before[0].rough:
+                failed.append(counts)
+
+    def round(self, tries: int) -> Iterator[tuple[Sequence[int | None], int]]:
+        """How many sheets of each kind each search may use, and how many tries it has."""
+        every, share = self.packer.counts, max(tries // (2 * (DEAREST + CHEAPER)), 1)
+        left = tries - max(tries // 4, 1)
+        yield every, tries - left
+        is_all = self.best is not None and not self.best[1].left
+        for counts in chain(self.fewer() if len(every) > 1 else (), self.promising()) if is_all else ():
+            if left < share:
+                return
+            yield counts, share
+            left -= share
+        for _ in range(ANEW if left >= ANEW else 0):
+            yield self.taken() if is_all else every, left // ANEW
 
     def rounds(self, limits: Limits) -> Iterator[tuple[Sequence[int | None], int]]:
-        """How many sheets of each kind each search may use, and how many tries it has."""
-        every, tries = self.packer.counts, limits.tries or TRIES
-        dearest = sorted(self.packer.kinds, key=lambda kind: -kind.cost)[:FEWER] if len(every) > 1 else []
-        share = tries // 2 // (len(dearest) + ANEW)
-        yield every, tries - share * (len(dearest) + ANEW)
-        for kind in dearest if share else ():
-            yield self.fewer(kind), share
-        for _ in range(ANEW if share else 0):
-            yield every, share
-        # As long as there is time.
+        """Those of one round; and of others, with more tries, as long as there is time."""
+        tries = limits.tries or TRIES
+        yield from self.round(tries)
         while limits.tries is None and limits.seconds is not None:
-            yield every, tries
             tries *= 2
+            yield from self.round(tries)
 
     def search(self, counts: Sequence[int | None], tries: int, seed: int) -> None:
         """One search."""
