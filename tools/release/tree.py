@@ -8,7 +8,7 @@ import subprocess
 
 from common import DIST, PACKAGING, SONAME, TOP, WORK, Refused, Release, at_commit, copied, emptied, filled, run
 
-EXAMPLES = tuple(f"c{end}/examples/{name}.c{end}" for end in ("", "pp") for name in ("atlas", "session", "collection"))
+EXAMPLES = tuple(f"c{end}/examples/{name}.c{end}" for end in ("", "pp") for name in ("atlas", "session", "collection", "panels"))
 NO_DEBUG = ("--remove-section=.comment", "--remove-section=.note")
 MAN_HEAD = """# NAME
 

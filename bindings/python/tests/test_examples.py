@@ -57,6 +57,12 @@ class Examples(unittest.TestCase):
         self.assertEqual(gone, [f"the {name} is gone, {7 - i} free sections" for i, name in enumerate(sprites)])
         self.assertEqual(last, "free again: Section(x=0, y=0, z=0, width=128, height=128, depth=1)")
 
+    def test_shelves_on_few_sheets(self):
+        # 27832 x 20532 takes three columns of three shelves 8032 x 6032 as they stand: nine. Each is more than a quarter as wide, and as
+        # high, so that no packer places ten. Two sheets are needed for the cells of 20.
+        self.assertEqual(lines_of("panels.py"), [
+            "as they stand: 3 sheets, and no packer needs fewer", "turned: 2 sheets, and no packer needs fewer"])
+
     def test_customers_are_kept_apart(self):
         refused, *lines = lines_of("customers.py")
         self.assertEqual(refused, "one container is not enough")
