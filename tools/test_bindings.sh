@@ -42,7 +42,7 @@ if have nm "the exported calls"; then
     sed -n 's/^[a-z].*\b\(rectangle_pack_[a-z_]*\)(.*/\1/p' include/rectangle_pack.h | sort | diff - "$work/exported.txt"
 fi
 if have cc C; then
-    for it in atlas session collection; do
+    for it in atlas session collection panels; do
         cc -std=c99 "${flags[@]}" "bindings/c/examples/$it.c" "$link" -o "$work/${it}_c"
         "$work/${it}_c" >"$work/$it.txt"
     done
@@ -54,13 +54,13 @@ if have cc C; then
     tools/fuzz_c.sh 0
 fi
 if have c++ C++; then
-    for it in atlas session collection; do
+    for it in atlas session collection panels; do
         c++ -std=c++11 "${flags[@]}" -x c++ "bindings/c/examples/$it.c" -x none "$link" -o "$work/${it}_cpp"
         "$work/${it}_cpp" | diff - "$work/$it.txt"
     done
     # The header of its own for C++17, which is tested as the standards after it compile it too.
     strict=(-Wpedantic -Wconversion -Wshadow "${flags[@]}")
-    for it in atlas session collection; do
+    for it in atlas session collection panels; do
         c++ -std=c++17 "${strict[@]}" "bindings/cpp/examples/$it.cpp" "$link" -o "$work/${it}_hpp"
         "$work/${it}_hpp" | diff - "$work/$it.txt"
     done
@@ -83,7 +83,9 @@ if have cargo Rust; then
         skipped+=("the lints of Rust: no cargo clippy")
     fi
     cargo run -q "${cargo[@]}" --example atlas >/dev/null
-    cargo run -q "${cargo[@]}" --example session | diff - "$work/session.txt"
+    for it in session panels; do
+        cargo run -q "${cargo[@]}" --example "$it" | diff - "$work/$it.txt"
+    done
     # The crate lists placements by their groups.
     cargo run -q "${cargo[@]}" --example collection | sort | diff - <(sort "$work/collection.txt")
     echo "Rust: cargo test, which compares with packrun, cargo doc, and the examples"
@@ -92,12 +94,13 @@ if have python3 Python; then
     # The tests of the module alone: those of the commands are test_tools.sh's.
     (cd bindings/python && python3 -m unittest -q tests/test_*.py)
     # The tests look at what the others print, which have no twin in C.
-    for it in atlas session; do
+    for it in atlas session panels; do
         PYTHONPATH=bindings/python python3 "bindings/python/examples/$it.py" | diff - "$work/$it.txt"
     done
     tools/c_beside_packrun.py "$runs"
     tools/c_beside_library.py "$runs"
-    echo "Python: the tests, the examples, and the drawn inputs and sessions beside packrun and the library"
+    tools/judged_searches.py "$((runs / 3))"
+    echo "Python: the tests, the examples, and the drawn inputs and sessions beside packrun, the library and the rules"
     # The tests have mypy check the types, where it is there.
     have mypy "the types in Python" || true
 fi
