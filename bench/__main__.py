@@ -20,7 +20,7 @@ ALL = (
     speed.packings, speed.others, speed.what_fits, speed.from_c, speed.excluded, speed.given_back, speed.sweeps, plans.plans, checks.checks,
     atlas.atlas, searches.searches, searches.in_containers, fill.fill, bounds.bounds, bounds.bound_times,
 )
-MORE = (fill.squares, fill.pages, fill.containers, fill.best, in_python.in_python)
+MORE = (fill.squares, fill.pages, fill.containers, fill.best, searches.searches_from_c, in_python.in_python)
 TABLES = {it.__name__: it for it in (*ALL, *MORE)}
 
 

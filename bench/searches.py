@@ -3,12 +3,13 @@ Pages: the sets of the table of pages. Containers: those of the table of contain
 from __future__ import annotations
 
 import math
-from collections.abc import Iterable, Iterator
+import subprocess
+from collections.abc import Iterable, Iterator, Sequence
 from statistics import fmean
 from typing import NamedTuple
 
 import fill
-from programs import compiled, printed, proved, table
+from programs import TOP, compiled, printed, proved, table
 
 # The size of a container.
 CONTAINER = (*fill.BASE, 200)
@@ -33,11 +34,13 @@ def questions(boxes: list[fill.Box], size: tuple[int, int, int], tries: int, tur
     yield f"search {tries} {SEED} 0"
 
 
-def searched(asked: Iterable[tuple[list[fill.Box], tuple[int, int, int]]], tries: int, turned: bool = False) -> Iterator[Found]:
-    """What is found for each set."""
+def searched(
+    asked: Iterable[tuple[list[fill.Box], tuple[int, int, int]]], tries: int, turned: bool = False, program: Sequence[str] = (),
+) -> Iterator[Found]:
+    """What is found for each set: by session_lines, or by another program that obeys such lines."""
     sets = [*asked]
     lines = (line for boxes, size in sets for line in questions(boxes, size, tries, turned))
-    said = iter(printed(proved("session_lines"), "".join(f"{it}\n" for it in lines)).splitlines())
+    said = iter(printed(program or proved("session_lines"), "".join(f"{it}\n" for it in lines)).splitlines())
     for boxes, _ in sets:
         for _ in boxes:
             next(said)
@@ -83,6 +86,21 @@ def searches() -> None:
         for tries, turned in ((2_000, False), (20_000, False), (200_000, False), (20_000, True)):
             name = f"{tries:,} tries" + (", boxes may be turned" if turned else "")
             yield row(name, asked, [*searched(pages, tries, turned)])
+
+    table(["", "Pages over area", "Pages", "Optimal", "Within one", "A set", "A try"], rows())
+
+
+def searches_from_c() -> None:
+    """The same sets by the calls for C, in 20,000 tries with seed 1: in one call, and in pieces of so many tries."""
+    subprocess.run([TOP / "tools" / "build_c.sh"], check=True, stdout=subprocess.DEVNULL)
+    program = compiled("search_times.c", f"-I{TOP}/build", f"{TOP}/build/librectangle_pack.a")
+    asked = [*fill.for_pages()]
+    pages = [(it.boxes, (side_of(it), side_of(it), 1)) for it in asked]
+
+    def rows() -> Iterator[list[str]]:
+        yield row("session_lines", asked, [*searched(pages, 20_000)])
+        for name, piece in (("C, in one call", 0), ("C, in pieces of 1,000 tries", 1_000), ("C, in pieces of 10 tries", 10)):
+            yield row(name, asked, [*searched(pages, 20_000, program=[program, str(piece)])])
 
     table(["", "Pages over area", "Pages", "Optimal", "Within one", "A set", "A try"], rows())
 
