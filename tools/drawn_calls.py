@@ -10,6 +10,8 @@ from answers_in_c import Line
 BEST, NO_HEURISTIC = 0xFFFF, 8
 HEURISTICS = range(8)
 COMMANDS = 40
+# A search that has as many bins as are needed ends early only after more tries.
+FEW_TRIES = 30
 GREATEST = 2**32 - 1
 
 
@@ -78,11 +80,11 @@ class Drawn:
         self.add("told")
 
     def search(self) -> None:
-        """At times a bin is said to cost 1, as each does."""
+        """At times a bin is said to cost 1, as each does. A search in bins that are said to cost makes all tries, so there are few."""
         self.turned(self.boxes(10, 3, 15))
-        if self.r.random() < 0.2:
-            self.add("cost", self.known(), 1)
         tries = self.r.randint(0, self.r.choice([8, 30, 30, 300]))
+        if tries <= FEW_TRIES and self.r.random() < 0.3:
+            self.add("cost", self.known(), 1)
         self.add("search", tries, self.r.randrange(2**16), self.r.randint(0, 1))
 
     def least(self) -> None:
