@@ -16,7 +16,7 @@ from ._cut.pdf import cairo
 from ._cut.read import Tables, read_work, sizes_of
 from ._cut.result import Result, Results
 from ._cut.scene import scene_of
-from ._cut.search import TRIES, Limits, check_each_fits, search_all
+from ._cut.search import FEWEST, TRIES, Limits, check_each_fits, search_all
 from ._cut.text import sums_text
 from ._cut.unit import UNITS
 from ._cut.values import as_json
@@ -93,7 +93,8 @@ def _add_given(it: argparse.ArgumentParser) -> None:
     it.add_argument("--keep", metavar="WxH",
                     help="the smallest offcut worth keeping, either way round (200x200, in inches 8x8)")
     it.add_argument("--tries", type=int, metavar="N",
-                    help=f"how many packings of some sheets are tried ({TRIES}): more take longer, and may cost less")
+                    help=f"how many packings of some sheets are tried ({TRIES}; at least {FEWEST}): "
+                    "more take longer, and may cost less")
     it.add_argument("--seconds", type=float, metavar="S",
                     help="so long is searched, or until the tries are made where --tries is said too")
     it.add_argument("--partial", action="store_true",

@@ -44,6 +44,9 @@ class Costs(Case):
         stock = "long,,3000,1000,10\nshort,,2000,1000,10\n"
         self.assertEqual(self.cost("a,2,1000,1000,keep\n", stock, "--keep", "5000x5000"), (10, {"short": 1}))
 
+    def test_a_panel_is_turned_however_few_the_tries_are(self) -> None:
+        self.assertEqual(self.cost("a,1,500,1000,free\n", "lying,1,1000,500,1\n", "--tries", 1), (1, {"lying": 1}))
+
     def test_drawn_costs(self) -> None:
         """Beside all sets of sheets, by how many squares each takes."""
         chance, takes = Random(3), {"small": 1, "large": 2, "huge": 4}

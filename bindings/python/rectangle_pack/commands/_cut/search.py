@@ -23,6 +23,9 @@ __all__ = ["Limits", "check_each_fits", "search_all"]
 # So many tries are made where nothing is said of them.
 TRIES = 100_000
 
+# The first search makes so many at least: with fewer the library has not laid the panels in each way in which they may stand.
+FEWEST = 192
+
 # Up to so many sheets of a kind are exchanged at once, of so many kinds, in so many searches; and so many begin anew.
 GONE, DEAREST, CHEAPER, ANEW = 3, 6, 20, 5
 
@@ -33,6 +36,11 @@ class Limits(NamedTuple):
     tries: int | None
     seconds: float | None
     may_leave: bool
+
+    @property
+    def most(self) -> int:
+        """So many tries are made, if there is time."""
+        return max(self.tries or TRIES, FEWEST)
 
 
 class _Score(NamedTuple):
@@ -101,7 +109,7 @@ class _Search:
         """How many sheets of each kind each search may use, and how many tries it has."""
         every, share = self.packer.counts, max(tries // (2 * (DEAREST + CHEAPER)), 1)
         left = tries - max(tries // 4, 1)
-        yield every, tries - left
+        yield every, max(tries - left, FEWEST)
         is_all = self.best is not None and not self.best[1].left
         for counts in chain(self.fewer() if len(every) > 1 else (), self.promising()) if is_all else ():
             if left < share:
@@ -196,7 +204,7 @@ def search_all(jobs: Sequence[Job], limits: Limits, stop: Stop) -> tuple[list[Pa
         seconds = None
         if limits.seconds is not None:
             seconds = (begun + limits.seconds - time.monotonic()) / (len(jobs) - index)
-        watch = Watch(job, limits.tries or (TRIES if limits.seconds is None else None), seconds, stop)
+        watch = Watch(job, limits.most if limits.tries or limits.seconds is None else None, seconds, stop)
         found.append(_found(job, limits, watch))
         if stop.is_pressed:
             stopped = f"stopped after {watch.count}: the plan is the best so far"
