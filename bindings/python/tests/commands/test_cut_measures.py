@@ -35,6 +35,7 @@ class Measures(Case):
         self.assertEqual(self.first_step((1232, 0), (0, 0), (100, 432)), measured)
 
     def test_wherever_panels_are_packed(self) -> None:
+        # Either "a" is cut off first, or "b" with "c" above it: 115 is the width of "b", and what is left is 105, 5 more than "a".
         run = self.cut_tables(
             "name,width,height\na,100,100\nb,115,40\nc,110,50\n", "width,height,cost\n223.2,100,1\n", "--kerf", "3.2")
         text = (run.folder / "sheet-1.txt").read_text(encoding="utf-8")
